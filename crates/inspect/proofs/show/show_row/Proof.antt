@@ -1,0 +1,64 @@
+-- `inspect::show::show_row` meets its contract.
+use mathlib.Core.Path.{_≡_}
+use lib.ListN.{length}
+use Prim.Native.Nat.{_≤_, _-_}
+use borrow.Author.Needs.{needs}
+use Rattle.inspect.proofs.show.show_row.Statement.{statement}
+use Rattle.inspect.proofs.show.show_row.Tie as tie
+
+abbrev Inv-loop : tie.InvT-loop
+Inv-loop values n i₀ t5 i = (i ≤ 7) × (length values ≡ 7) × (length t5 ≡ 1)
+
+abbrev μ-loop : tie.MeasureT-loop
+μ-loop values n i₀ t5 i = 7 - i
+
+loop-holds : tie.Need-loop-holds Inv-loop μ-loop
+loop-holds c = search needs
+
+slice-aggregate-write-all : tie.Need-slice-aggregate-write-all Inv-loop μ-loop
+slice-aggregate-write-all c = search needs
+
+write-all-requires : tie.Need-write-all-requires Inv-loop μ-loop
+write-all-requires c κs = search needs
+
+mul-print-decimal : tie.Need-mul-print-decimal Inv-loop μ-loop
+mul-print-decimal c = search needs
+
+array-read-print-decimal : tie.Need-array-read-print-decimal Inv-loop μ-loop
+array-read-print-decimal c = search needs
+
+cast-print-decimal : tie.Need-cast-print-decimal Inv-loop μ-loop
+cast-print-decimal c = search needs
+
+print-decimal-requires : tie.Need-print-decimal-requires Inv-loop μ-loop
+print-decimal-requires c κs = search needs
+
+add-i : tie.Need-add-i Inv-loop μ-loop
+add-i c = search needs
+
+loop-less : tie.Need-loop-less Inv-loop μ-loop
+loop-less c = search needs
+
+loop-again : tie.Need-loop-again Inv-loop μ-loop
+loop-again c = search needs
+
+returns : tie.Need-returns Inv-loop μ-loop
+returns c = search needs
+
+pub show-row-spec : {M : Type 1} → statement M
+show-row-spec =
+    tie.close
+    (tie.spec
+    Inv-loop
+    μ-loop
+    loop-holds
+    slice-aggregate-write-all
+    write-all-requires
+    mul-print-decimal
+    array-read-print-decimal
+    cast-print-decimal
+    print-decimal-requires
+    add-i
+    loop-less
+    loop-again
+    returns)

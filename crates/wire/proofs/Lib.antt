@@ -1,0 +1,7 @@
+-- Proofs that belong to no one function.
+pub mod Tests
+pub mod Over
+pub mod Digits
+pub mod Fields
+pub mod Inverse
+pub mod Claims

@@ -1,0 +1,4 @@
+pub mod Bytes
+pub mod Message
+pub mod Writing
+pub mod Claims
