@@ -1,0 +1,4 @@
+pub mod Difference
+pub mod Sequence
+pub mod Clock
+pub mod Claims
