@@ -36,6 +36,7 @@ Back m d = (parse (encode m d) ≡ WellFormed m) × (carried (m .body) (dataIn (
 -- bytes of kind 6 that end within the longest data are train data
 train-data-reads : (s : List ℕ) → 16 < length s → length s ≤ 16 + longest → getD s 0 0 ≡ 6 → getD s 15 0 ≡ 3
     → parse s ≡ saying s TrainData
+unfolding parse
 train-data-reads s more less kind tag =
     let a = le-ltb (length s) 15 (omega arith) in
     let b = le-ltb (length s) 16 (omega arith) in
@@ -48,7 +49,7 @@ same-header : (kind : ℕ) (h : Header) (b : Body) (q : List ℕ) → Fits (said
 same-header kind h b q f = header-reads kind h q (f .number) (f .sent) (f .echo) (f .receipt)
 
 pub reads-body : (h : Header) (b : Body) (d : List ℕ) → Fits (said h b) → carries b d ≡ true → Back (said h b) d
-unfolding encode headerBytes
+unfolding encode headerBytes parse
 reads-body h OffsetStart d f ok = (ap (λ (x : Header). WellFormed (said x OffsetStart)) (same-header 1 h OffsetStart [] f), refl)
 reads-body h OffsetAnsw1 d f ok = (ap (λ (x : Header). WellFormed (said x OffsetAnsw1)) (same-header 2 h OffsetAnsw1 [] f), refl)
 reads-body h OffsetAnsw2 d f ok = (ap (λ (x : Header). WellFormed (said x OffsetAnsw2)) (same-header 3 h OffsetAnsw2 [] f), refl)
@@ -182,6 +183,7 @@ module _ (s : List ℕ) (bytes : AreBytes s) (long : 15 ≤ length s) where
   undone-body (suc (suc (suc (suc (suc (suc (suc kind))))))) first = undone-not s
 
 pub undone : (s : List ℕ) → AreBytes s → Undone s (parse s)
+unfolding parse
 undone s bytes =
     by-test (Undone s) (ltb (length s) 15) (λ e. undone-not s)
     (λ e. undone-body s bytes (ltb-false (length s) 15 e) (getD s 0 0) refl)

@@ -80,7 +80,7 @@ bodyIn Offsets s = cond (eqb (length s) 23) (saying s (OffsetEst (numberAt 4 s 1
 bodyIn Payload s = payloadIn s
 bodyIn Unknown s = Malformed
 
-abbrev pub parse : List ℕ → Parsed
+unfoldable pub parse : List ℕ → Parsed
 parse s = cond (ltb (length s) 15) Malformed (bodyIn (shapeOf (getD s 0 0)) s)
 
 -- the train data of a message that carries some

@@ -3,6 +3,7 @@ use lib.Seq.{length-take-le}
 use borrow.Author.Tests.{lt-ltb, le-ltb}
 use mathlib.Core.Path.{sym}
 use borrow.Author.Needs.{needs}
+use Rattle.wire.specs.Message.{parse}
 use Rattle.inspect.proofs.show.show.Statement.{statement}
 use Rattle.inspect.proofs.show.show.Tie as tie
 
@@ -28,6 +29,7 @@ returns-3 : tie.Need-returns-3
 returns-3 c = rw (c .before .before .if1 .left, c .before .if2 .left, lt-ltb _ _ (c .if3 .taken))
 
 returns-4 : tie.Need-returns-4
+unfolding parse
 returns-4 c = rw (c .before .before .before .before .if1 .left, c .before .before .before .if2 .left, le-ltb _ _ (c .before .before .if3 .left), c .before .if4 .taken)
 
 slice-aggregate-show-message : tie.Need-slice-aggregate-show-message

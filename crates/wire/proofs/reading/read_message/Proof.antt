@@ -1,11 +1,13 @@
 -- `wire::reading::read_message` meets its contract.
 use borrow.Author.Needs.{needs}
 use borrow.Author.Tests.{le-ltb}
+use Rattle.wire.specs.Message.{parse}
 use Rattle.wire.proofs.Tests.{tests}
 use Rattle.wire.proofs.reading.read_message.Statement.{statement}
 use Rattle.wire.proofs.reading.read_message.Tie as tie
 
 returns : tie.Need-returns
+unfolding parse
 returns c = search tests
 
 shared-slice-read-kind : tie.Need-shared-slice-read-kind
@@ -18,6 +20,7 @@ read-body-requires : tie.Need-read-body-requires
 read-body-requires c κs = search needs
 
 returns-2 : tie.Need-returns-2
+unfolding parse
 returns-2 c = rw (le-ltb _ _ (c .before .before .before .if1 .left)) (cc)
 
 pub read-message-spec : {M : Type 1} → statement M

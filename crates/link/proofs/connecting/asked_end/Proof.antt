@@ -1,0 +1,16 @@
+-- `link::connecting::asked_end` meets its contract.
+use borrow.Author.Needs.{needs}
+use Rattle.link.proofs.connecting.asked_end.Statement.{statement}
+use Rattle.link.proofs.connecting.asked_end.Tie as tie
+
+new-line-requires : tie.Need-new-line-requires
+new-line-requires c κs = search needs
+
+empty-requires : tie.Need-empty-requires
+empty-requires c κs = search needs
+
+returns : tie.Need-returns
+returns c = rw (c .empty .ensures, c .before .new-line .ensures)
+
+pub asked-end-spec : {M : Type 1} → statement M
+asked-end-spec = tie.close (tie.spec new-line-requires empty-requires returns)

@@ -1,0 +1,13 @@
+-- `link::line::sent` meets its contract.
+use borrow.Author.Needs.{needs}
+use Rattle.link.proofs.line.sent.Statement.{statement}
+use Rattle.link.proofs.line.sent.Tie as tie
+
+wrapping-add-u16-requires : tie.Need-wrapping-add-u16-requires
+wrapping-add-u16-requires c κs = search needs
+
+returns : tie.Need-returns
+returns c = rw (c .wrapping-add-u16 .ensures)
+
+pub sent-spec : {M : Type 1} → statement M
+sent-spec = tie.close (tie.spec wrapping-add-u16-requires returns)

@@ -1,0 +1,5 @@
+pub mod Make
+pub mod Line
+pub mod Perform
+pub mod Place
+pub mod Step

@@ -1,0 +1,4 @@
+-- Proofs that belong to no one function.
+pub mod Slots
+pub mod Order
+pub mod Claims

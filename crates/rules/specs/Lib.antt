@@ -1,0 +1,4 @@
+pub mod Answers
+pub mod Settings
+pub mod State
+pub mod Rules
