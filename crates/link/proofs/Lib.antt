@@ -1,3 +1,4 @@
 -- Proofs that belong to no one function.
 pub mod Fits
-pub mod Sound
+pub mod Readiness
+pub mod Claims

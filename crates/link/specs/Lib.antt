@@ -3,3 +3,4 @@ pub mod Line
 pub mod Perform
 pub mod Place
 pub mod Step
+pub mod Claims

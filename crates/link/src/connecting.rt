@@ -135,12 +135,12 @@ fn fallen_end(e: End, at: Reading) -> End
     let settings = e.settings;
     let asked = e.asked;
     let role = e.role;
-    let line = blank_line();
+    let blank = blank_line();
     let ring = queue::empty();
     let at_once = may_ask(e.at_once, was_up(e), asks_at_once(role));
     End {
         settings,
-        line,
+        line: blank,
         reading: at,
         asked,
         ring,

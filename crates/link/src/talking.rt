@@ -172,8 +172,16 @@ fn drain(e: End, at: Reading) -> Effect
 {
     let line = e.line;
     let ring = e.ring;
-    let m = message(line, at, Body::TrainData);
-    say(e, at, taken(ring), Placing::SendOldest { message: m, ring })
+    let oldest = message(line, at, Body::TrainData);
+    say(
+        e,
+        at,
+        taken(ring),
+        Placing::SendOldest {
+            message: oldest,
+            ring,
+        },
+    )
 }
 
 // The ring with one more at its end.

@@ -31,21 +31,22 @@ pub enum Phase {
     Up,
 }
 
-// What an end holds of its connection. All zeros while Idle.
+// What an end holds of its connection. All zeros while Idle. Fields that change together stand together:
+// a struct is moved in pieces of eight bytes, and a piece of fields that were stored one by one stalls.
 pub struct Line {
     // The peer's clock against the own one, as measured at the start.
     pub minimum: Offset,
     pub maximum: Offset,
     // The own reading in the message that the measuring began with: kind 1 or kind 2.
     pub posted: Reading,
+    // When the wait for the start began.
+    pub began: Reading,
+    // When the last kind 6 went, and when the last message was delivered; or coming Up.
+    pub spoken: Reading,
+    pub heard: Reading,
     // The stamps to echo: the peer's reading in the last message accepted, and the own one then.
     pub echo: Reading,
     pub receipt: Reading,
-    // When the wait for the start began.
-    pub began: Reading,
-    // When the last message was delivered, and when the last kind 6 went; or coming Up.
-    pub heard: Reading,
-    pub spoken: Reading,
     // The number of the next message, and that of the last one accepted.
     pub next: u16,
     pub last: u16,

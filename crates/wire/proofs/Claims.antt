@@ -10,6 +10,7 @@ use Rattle.wire.specs.Claims.{NumberReadsBack, NumberWritesBack, ReadsBa
 use Rattle.wire.proofs.Digits.{read-writes}
 use Rattle.wire.proofs.Fields.{field-reads}
 use Rattle.wire.proofs.Inverse.{reads-body, undone}
+use Rattle.wire.proofs.Parsing.{reads-carried}
 
 bytes-length : (n x : ℕ) → length (bytesOf n x) ≡ n
 bytes-length zero x = refl
@@ -40,4 +41,4 @@ pub reads-back : ReadsBack
 reads-back m d fits ok = reads-body (m .header) (m .body) d fits ok
 
 pub writes-back : WritesBack
-writes-back s m bytes e = undone s bytes m e
+writes-back s m bytes e = let u = undone s m bytes e in (u .0, reads-carried s m e, u .1)

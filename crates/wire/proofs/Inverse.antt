@@ -1,27 +1,24 @@
 -- Reading undoes writing, and writing undoes reading, for each body of a message.
-use Prim.Native.Nat.{ℕ, zero, suc, _+_, _≤_, _<_}
+use Prim.Native.Nat.{ℕ, _+_, _≤_, _<_}
 use native.Mathlib.Nat.{le-of-eq}
 use native.Mathlib.Omega.{arith}
-use mathlib.Core.Bool.{true, cond, and-eq-true-iff}
+use mathlib.Core.Bool.{true, and-eq-true-iff}
 use mathlib.Core.Path.{_≡_, refl, ap, ap₂, sym, subst, _∙_}
 use mathlib.Core.List.{List, [], _∷_, _++_, append-nil}
-use borrow.Author.Tests.{ltb-false, leb-true, eqb-true, eqb-false, le-ltb, le-leb, ne-eqb}
-use lib.Dec.{ltb, leb, eqb}
-use lib.Arith.{lt-of-le-ne}
-use lib.ListN.{length, getD, take, drop, take-append-drop, drop-of-length-le, length-drop}
+use borrow.Author.Tests.{leb-true, le-ltb, le-leb, ne-eqb}
+use lib.Dec.{leb}
+use lib.ListN.{length, getD, take, drop, take-append-drop, drop-of-length-le}
 use lib.Seq.{take-add, take-all, drop-cons, drop-drop}
 use Rattle.wire.specs.Bytes.{bytesOf, numberAt, AreBytes}
-use Rattle.wire.specs.Message.{headerBytes, headerIn, encode, parse, bodyIn, payloadIn, saying, shapeOf, dataIn, longest}
+use Rattle.wire.specs.Message.{headerBytes, headerIn, encode, parse, saying, dataIn, longest}
 use Rattle.wire.specs.Writing.{carries}
 use Rattle.wire.specs.Claims.{Fits, BodyFits, carried}
 use Rattle.wire.specs.declared.message.Header.{Header}
 use Rattle.wire.specs.declared.message.Body.{Body}
 use Rattle.wire.specs.declared.message.Body.the-variants.{OffsetStart, OffsetAnsw1, OffsetAnsw2, OffsetEst, OffsetEnd, LifeSign, TrainData}
 use Rattle.wire.specs.declared.message.Message.{Message}
-use Rattle.wire.specs.declared.message.Parsed.{Parsed}
-use Rattle.wire.specs.declared.message.Parsed.the-variants.{WellFormed, Malformed}
-use Rattle.wire.specs.declared.message.Shape.the-variants.{Bare, Offsets}
-use Rattle.wire.proofs.Tests.{by-test}
+use Rattle.wire.specs.declared.message.Parsed.the-variants.{WellFormed}
+use Rattle.wire.proofs.Parsing.{ReadsAs, reads-as}
 use Rattle.wire.proofs.Digits.{read-writes, number-lt}
 use Rattle.wire.proofs.Fields.{field-reads, header-reads, header-writes}
 
@@ -72,9 +69,6 @@ reads-body h TrainData d f ok =
 
 -- ---- what is read would be written
 
-abbrev pub Same : List ℕ → Message → Type 0
-Same s m = Fits m × (carries (m .body) (dataIn s) ≡ true) × (encode m (dataIn s) ≡ s)
-
 module _ (s : List ℕ) (bytes : AreBytes s) (long : 15 ≤ length s) where
   read-fits : (b : Body) → BodyFits b → Fits (said (headerIn s) b)
   read-fits b fits =
@@ -108,82 +102,36 @@ module _ (s : List ℕ) (bytes : AreBytes s) (long : 15 ≤ length s) where
       (ap (λ (k : ℕ). k ∷ drop 16 s) (sym second) ∙ sym (drop-cons s 15 0 len))
       ∙ take-append-drop 15 s
 
--- the claim of a list that reads as r
-abbrev pub Undone : List ℕ → Parsed → Type 0
-Undone s r = (m : Message) → r ≡ WellFormed m → Same s m
+same-body : (s : List ℕ) → AreBytes s → (b : Body) → ReadsAs s b
+    → BodyFits b × (encode (said (headerIn s) b) (dataIn s) ≡ s)
+unfolding encode
+same-body s bytes OffsetStart r = (tt, same-bare s bytes (omega arith) 1 (r .0) (r .1))
+same-body s bytes OffsetAnsw1 r = (tt, same-bare s bytes (omega arith) 2 (r .0) (r .1))
+same-body s bytes OffsetAnsw2 r = (tt, same-bare s bytes (omega arith) 3 (r .0) (r .1))
+same-body s bytes (OffsetEst minimum maximum) r = (
+  (rw (r .2) (number-lt 4 s 15 bytes), rw (r .3) (number-lt 4 s 19 bytes)),
+  rw (r .2, r .3) (same-offsets s bytes (omega arith) (r .0) (r .1)),
+)
+same-body s bytes OffsetEnd r = (tt, same-bare s bytes (omega arith) 5 (r .0) (r .1))
+same-body s bytes LifeSign r = (
+  tt,
+  ap (λ (l : List ℕ). headerBytes 6 (headerIn s) ++ (2 ∷ l)) (sym (drop-of-length-le s (le-of-eq (r .1))))
+      ∙ same-payload s bytes (omega arith) 2 (r .0) (omega arith) (r .2),
+)
+same-body s bytes TrainData r = (tt, same-payload s bytes (omega arith) 3 (r .0) (omega arith) (r .3))
 
-undone-not : (s : List ℕ) → Undone s Malformed
-undone-not s m e = let z : _≡_ {A = ℕ} 0 1 = cc in absurd (omega arith)
+reads-long : (s : List ℕ) (b : Body) → ReadsAs s b → 15 ≤ length s
+reads-long s OffsetStart r = omega arith
+reads-long s OffsetAnsw1 r = omega arith
+reads-long s OffsetAnsw2 r = omega arith
+reads-long s (OffsetEst minimum maximum) r = omega arith
+reads-long s OffsetEnd r = omega arith
+reads-long s LifeSign r = omega arith
+reads-long s TrainData r = omega arith
 
-undone-saying : (s : List ℕ) (b : Body) → Same s (said (headerIn s) b) → Undone s (saying s b)
-undone-saying s b same m e = let q : said (headerIn s) b ≡ m = cc in subst (Same s) q same
-
-module _ (s : List ℕ) (bytes : AreBytes s) (long : 15 ≤ length s) where
-  undone-bare : (b : Body) → BodyFits b → carries b (dataIn s) ≡ true
-      → (length s ≡ 15 → encode (said (headerIn s) b) (dataIn s) ≡ s) → Undone s (bodyIn (Bare b) s)
-  undone-bare b fits ok same =
-      by-test (Undone s) (eqb (length s) 15)
-      (λ e. undone-saying s b (read-fits s bytes long b fits, ok, same (eqb-true (length s) 15 e)))
-      (λ e. undone-not s)
-
-  undone-offsets : getD s 0 0 ≡ 4 → Undone s (bodyIn Offsets s)
-  unfolding encode
-  undone-offsets first =
-      by-test (Undone s) (eqb (length s) 23)
-      (λ e. undone-saying s (OffsetEst (numberAt 4 s 15) (numberAt 4 s 19))
-      (read-fits s bytes long _ (number-lt 4 s 15 bytes, number-lt 4 s 19 bytes), refl, same-offsets s bytes long first (eqb-true (length s) 23 e)))
-      (λ e. undone-not s)
-
-  undone-life-sign : getD s 0 0 ≡ 6 → length s ≡ 16 → Undone s (cond (eqb (getD s 15 0) 2) (saying s LifeSign) Malformed)
-  unfolding encode
-  undone-life-sign first len =
-      by-test (Undone s) (eqb (getD s 15 0) 2)
-      (λ e. undone-saying s LifeSign (
-        read-fits s bytes long LifeSign tt,
-        refl,
-        ap (λ (l : List ℕ). headerBytes 6 (headerIn s) ++ (2 ∷ l)) (sym (drop-of-length-le s (le-of-eq len)))
-            ∙ same-payload s bytes long 2 first (le-of-eq (sym len)) (eqb-true (getD s 15 0) 2 e),
-      ))
-      (λ e. undone-not s)
-
-  undone-train-data : getD s 0 0 ≡ 6 → 16 < length s → length s ≤ 16 + longest
-      → Undone s (cond (eqb (getD s 15 0) 3) (saying s TrainData) Malformed)
-  unfolding encode
-  undone-train-data first more less =
-      let n = length-drop 16 s in
-      let some = le-leb 1 (length (drop 16 s)) (omega arith) in
-      let few = le-leb (length (drop 16 s)) longest (omega arith) in
-      by-test (Undone s) (eqb (getD s 15 0) 3)
-      (λ e. undone-saying s TrainData (
-        read-fits s bytes long TrainData tt,
-        and-eq-true-iff _ _ .1 (some, few),
-        same-payload s bytes long 3 first (omega arith) (eqb-true (getD s 15 0) 3 e),
-      ))
-      (λ e. undone-not s)
-
-  undone-payload : getD s 0 0 ≡ 6 → Undone s (payloadIn s)
-  undone-payload first =
-      by-test (Undone s) (ltb (length s) 16) (λ e. undone-not s)
-      (λ e. by-test (Undone s) (eqb (length s) 16) (λ f. undone-life-sign first (eqb-true (length s) 16 f))
-      (λ f. by-test (Undone s) (leb (length s) (16 + longest))
-      (λ g.
-      let more : 16 < length s = lt-of-le-ne (ltb-false (length s) 16 e) (λ q. eqb-false (length s) 16 f (sym q)) in
-      undone-train-data first more (leb-true (length s) (16 + longest) g))
-      (λ g. undone-not s)))
-
-  undone-body : (kind : ℕ) → getD s 0 0 ≡ kind → Undone s (bodyIn (shapeOf kind) s)
-  unfolding encode
-  undone-body zero first = undone-not s
-  undone-body (suc zero) first = undone-bare OffsetStart tt refl (same-bare s bytes long 1 first)
-  undone-body (suc (suc zero)) first = undone-bare OffsetAnsw1 tt refl (same-bare s bytes long 2 first)
-  undone-body (suc (suc (suc zero))) first = undone-bare OffsetAnsw2 tt refl (same-bare s bytes long 3 first)
-  undone-body (suc (suc (suc (suc zero)))) first = undone-offsets first
-  undone-body (suc (suc (suc (suc (suc zero))))) first = undone-bare OffsetEnd tt refl (same-bare s bytes long 5 first)
-  undone-body (suc (suc (suc (suc (suc (suc zero)))))) first = undone-payload first
-  undone-body (suc (suc (suc (suc (suc (suc (suc kind))))))) first = undone-not s
-
-pub undone : (s : List ℕ) → AreBytes s → Undone s (parse s)
-unfolding parse
-undone s bytes =
-    by-test (Undone s) (ltb (length s) 15) (λ e. undone-not s)
-    (λ e. undone-body s bytes (ltb-false (length s) 15 e) (getD s 0 0) refl)
+pub undone : (s : List ℕ) (m : Message) → AreBytes s → parse s ≡ WellFormed m → Fits m × (encode m (dataIn s) ≡ s)
+undone s m bytes e =
+    let i = reads-as s m e in
+    let same = same-body s bytes (m .body) (i .1) in
+    subst (λ (h : Header). Fits (said h (m .body)) × (encode (said h (m .body)) (dataIn s) ≡ s)) (sym (i .0))
+    (read-fits s bytes (reads-long s (m .body) (i .1)) (m .body) (same .0), same .1)

@@ -3,5 +3,6 @@ pub mod Tests
 pub mod Over
 pub mod Digits
 pub mod Fields
+pub mod Parsing
 pub mod Inverse
 pub mod Claims

@@ -3,7 +3,7 @@ use lib.ListN.{length}
 use denote.Ref.{now}
 use mathlib.Core.Path.{ap, sym, subst, _∙_}
 use borrow.Author.Needs.{needs}
-use Rattle.link.proofs.Sound.{effect-ready}
+use Rattle.link.proofs.Readiness.{effect-ready}
 use Rattle.link.specs.declared.effect.Effect.{Effect}
 use Rattle.link.specs.Step.{effectOf, stepped, resultOf}
 use Rattle.link.specs.Place.{Ready}
