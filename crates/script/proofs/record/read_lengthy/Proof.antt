@@ -1,0 +1,24 @@
+-- `script::record::read_lengthy` meets its contract.
+use borrow.Author.Tests.{le-leb, lt-leb}
+use borrow.Author.Needs.{needs}
+use Rattle.script.proofs.record.read_lengthy.Statement.{statement}
+use Rattle.script.proofs.record.read_lengthy.Tie as tie
+
+read-u32-requires : tie.Need-read-u32-requires
+read-u32-requires c κs = search needs
+
+shared-slice-read-widen : tie.Need-shared-slice-read-widen
+shared-slice-read-widen c = search needs
+
+widen-requires : tie.Need-widen-requires
+widen-requires c κs = search needs
+
+returns : tie.Need-returns
+returns c = rw (← c .before .widen .ensures, le-leb _ _ (c .if1 .taken), c .before .before .before .read-u32 .ensures)
+
+returns-2 : tie.Need-returns-2
+returns-2 c = rw (← c .before .widen .ensures, lt-leb _ _ (c .if1 .left))
+
+pub read-lengthy-spec : {M : Type 1} → statement M
+read-lengthy-spec =
+    tie.close (tie.spec read-u32-requires shared-slice-read-widen widen-requires returns returns-2)

@@ -1,0 +1,41 @@
+-- `script::record::read_record` meets its contract.
+use lib.ListN.{List·getD-eq-default}
+use denote.Ref.{now}
+use native.Mathlib.Nat.{le-of-eq}
+use borrow.Author.Tests.{lt-ltb, le-ltb}
+use borrow.Author.Needs.{needs}
+use Rattle.script.specs.Record.{recordIn}
+use Rattle.script.proofs.record.read_record.Statement.{statement}
+use Rattle.script.proofs.record.read_record.Tie as tie
+
+returns : tie.Need-returns
+unfolding recordIn
+returns c = rw (List·getD-eq-default (now (c .before .before .args .s)) 0 {n = 0} (le-of-eq (c .if1 .taken)), c .if1 .taken)
+
+shared-slice-read-kind : tie.Need-shared-slice-read-kind
+shared-slice-read-kind c = search needs
+
+size-of-requires : tie.Need-size-of-requires
+size-of-requires c κs = search needs
+
+returns-2 : tie.Need-returns-2
+unfolding recordIn
+returns-2 c = rw (← c .before .size-of .ensures, lt-ltb _ _ (c .if2 .taken))
+
+read-kind-requires : tie.Need-read-kind-requires
+read-kind-requires c κs = search needs
+
+returns-3 : tie.Need-returns-3
+unfolding recordIn
+returns-3 c = rw (← c .before .before .size-of .ensures, le-ltb _ _ (c .before .if2 .left)) (c .read-kind .ensures)
+
+pub read-record-spec : {M : Type 1} → statement M
+read-record-spec =
+    tie.close
+    (tie.spec
+    returns
+    shared-slice-read-kind
+    size-of-requires
+    returns-2
+    read-kind-requires
+    returns-3)

@@ -1,0 +1,3 @@
+// The Sunday script: records in, lines out. So far the records.
+pub mod desk;
+pub mod record;
