@@ -6,12 +6,12 @@
 //
 // A step goes in three: `rules` decides by tests alone, `perform` works out what follows without
 // tests, and `place` alone touches bytes.
-pub mod connecting;
+mod connecting;
 pub mod effect;
-pub mod line;
+mod line;
 pub mod make;
-pub mod perform;
-pub mod place;
-pub mod starting;
+mod perform;
+mod place;
+mod starting;
 pub mod step;
-pub mod talking;
+mod talking;

@@ -6,8 +6,8 @@
 pub mod act;
 pub mod answer;
 pub mod decide;
-pub mod hearing;
+mod hearing;
 pub mod settings;
-pub mod speaking;
-pub mod starting;
+mod speaking;
+mod starting;
 pub mod state;
