@@ -85,6 +85,16 @@ fallenEnd e at =
 
 -- ---- the life of a connection
 
+-- down if it was Up, after an error report and a release where these are due
+abbrev pub falling : End → Reading → Answer → Bool → Bool → Effect
+falling e at answer error release =
+    record {
+      end = fallenEnd e at;
+      placing = Nothing;
+      flags = record { ask = false; accept = false; up = false; error = error; release = release; down = wasUp e };
+      answer = answer;
+    }
+
 abbrev pub moved : End → Connection → Reading → Effect
 moved e Ask at =
     record {
@@ -100,20 +110,8 @@ moved e Accept at =
       flags = record { ask = false; accept = true; up = false; error = false; release = false; down = wasUp e };
       answer = Handled;
     }
-moved e Lose at =
-    record {
-      end = fallenEnd e at;
-      placing = Nothing;
-      flags = record { ask = false; accept = false; up = false; error = false; release = false; down = wasUp e };
-      answer = Handled;
-    }
-moved e (Fall answer error) at =
-    record {
-      end = fallenEnd e at;
-      placing = Nothing;
-      flags = record { ask = false; accept = false; up = false; error = error; release = true; down = wasUp e };
-      answer = answer;
-    }
+moved e Lose at = falling e at Handled false false
+moved e (Fall answer error) at = falling e at answer error true
 
 -- ---- the clock start
 

@@ -1,9 +1,9 @@
 // The life of a connection: asked for, accepted, lost, ended.
 ghost use mathlib.Core.Path.{_≡_};
 ghost use mathlib.Core.Bool.{_&&_, _||_};
-ghost use Rattle.link.specs.Perform.{askedEnd, fallenEnd};
+ghost use Rattle.link.specs.Perform.{askedEnd, fallenEnd, falling};
 ghost use Rattle.link.specs.Perform.{moved as movedBy};
-ghost use Rattle.rules.specs.declared.act.Connection.the-variants.{Ask, Accept, Lose, Fall};
+ghost use Rattle.rules.specs.declared.act.Connection.the-variants.{Ask, Accept};
 use crate::effect::Effect;
 use crate::effect::Flags;
 use crate::effect::Placing;
@@ -24,8 +24,8 @@ pub fn moved(e: End, m: Connection, at: Reading) -> Effect
     match m {
         Connection::Ask => ask(e, at),
         Connection::Accept => accept(e, at),
-        Connection::Lose => lose(e, at),
-        Connection::Fall { answer, error } => fall(e, answer, error, at),
+        Connection::Lose => fall(e, Answer::Handled, false, false, at),
+        Connection::Fall { answer, error } => fall(e, answer, error, true, at),
     }
 }
 
@@ -68,28 +68,9 @@ fn accept(e: End, at: Reading) -> Effect
     }
 }
 
-fn lose(e: End, at: Reading) -> Effect
-    ensures { λ r. ⌜ r ≡ movedBy e Lose at ⌝ }
-{
-    let down = was_up(e);
-    let end = fallen_end(e, at);
-    Effect {
-        end,
-        placing: Placing::Nothing,
-        flags: Flags {
-            ask: false,
-            accept: false,
-            up: false,
-            error: false,
-            release: false,
-            down,
-        },
-        answer: Answer::Handled,
-    }
-}
-
-fn fall(e: End, answer: Answer, error: bool, at: Reading) -> Effect
-    ensures { λ r. ⌜ r ≡ movedBy e (Fall answer error) at ⌝ }
+// Down if it was Up, after an error report and a release where these are due.
+fn fall(e: End, answer: Answer, error: bool, release: bool, at: Reading) -> Effect
+    ensures { λ r. ⌜ r ≡ falling e at answer error release ⌝ }
 {
     let down = was_up(e);
     let end = fallen_end(e, at);
@@ -101,7 +82,7 @@ fn fall(e: End, answer: Answer, error: bool, at: Reading) -> Effect
             accept: false,
             up: false,
             error,
-            release: true,
+            release,
             down,
         },
         answer,

@@ -15,41 +15,31 @@ zeroReading = record { 0 = 0 }
 abbrev pub zeroOffset : Offset
 zeroOffset = record { 0 = 0 }
 
--- what an Idle end holds of a connection
-abbrev pub blankLine : Line
-blankLine =
+-- all zeros but for when the wait began and the number last accepted
+abbrev pub lineFrom : Reading → ℕ → Line
+lineFrom began last =
     record {
       minimum = zeroOffset;
       maximum = zeroOffset;
       posted = zeroReading;
       echo = zeroReading;
       receipt = zeroReading;
-      began = zeroReading;
+      began = began;
       heard = zeroReading;
       spoken = zeroReading;
       next = 0;
-      last = 0;
+      last = last;
       failures = 0;
       spoke = false;
     }
 
+-- what an Idle end holds of a connection
+abbrev pub blankLine : Line
+blankLine = lineFrom zeroReading 0
+
 -- a connection that begins at a reading: "last" is 65,535, and the wait begins
 abbrev pub newLine : Reading → Line
-newLine at =
-    record {
-      minimum = zeroOffset;
-      maximum = zeroOffset;
-      posted = zeroReading;
-      echo = zeroReading;
-      receipt = zeroReading;
-      began = at;
-      heard = zeroReading;
-      spoken = zeroReading;
-      next = 0;
-      last = 65_535;
-      failures = 0;
-      spoke = false;
-    }
+newLine at = lineFrom at 65_535
 
 -- every life but Idle and Up is a starting one
 abbrev pub phaseOf : Life → Phase

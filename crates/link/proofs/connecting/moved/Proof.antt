@@ -18,14 +18,14 @@ accept-requires c κs = search needs
 enum-told-3 : tie.Need-enum-told-3
 enum-told-3 c = search needs
 
-lose-requires : tie.Need-lose-requires
-lose-requires c κs = search needs
+fall-requires : tie.Need-fall-requires
+fall-requires c κs = search needs
 
 enum-known-m : tie.Need-enum-known-m
 enum-known-m c = search needs
 
-fall-requires : tie.Need-fall-requires
-fall-requires c κs = search needs
+fall-requires-2 : tie.Need-fall-requires-2
+fall-requires-2 c κs = search needs
 
 returns : tie.Need-returns
 returns c = rw (c .before .enum-told .given .1) (c .ask .ensures)
@@ -34,10 +34,10 @@ returns-2 : tie.Need-returns-2
 returns-2 c = rw (c .before .enum-told2 .given .1) (c .accept .ensures)
 
 returns-3 : tie.Need-returns-3
-returns-3 c = rw (c .before .enum-told3 .given .1) (c .lose .ensures)
+returns-3 c = rw (c .before .enum-told3 .given .1) (c .fall .ensures)
 
 returns-4 : tie.Need-returns-4
-returns-4 c = rw (c .before .before .m .given .1) (c .fall .ensures)
+returns-4 c = rw (c .before .before .m .given .1) (c .fall2 .ensures)
 
 pub moved-spec : {M : Type 1} → statement M
 moved-spec =
@@ -48,9 +48,9 @@ moved-spec =
     enum-told-2
     accept-requires
     enum-told-3
-    lose-requires
-    enum-known-m
     fall-requires
+    enum-known-m
+    fall-requires-2
     returns
     returns-2
     returns-3
