@@ -1,2 +1,4 @@
 -- Proofs that belong to no one function.
 pub mod Unlisted
+pub mod Puts
+pub mod Playing

@@ -1,86 +1,99 @@
--- What one record comes to: the desk afterwards, the queue's bytes, and the line.
-use Prim.Native.Nat.{ℕ, _+_}
-use mathlib.Core.Bool.{Bool, true, false, cond}
-use mathlib.Core.List.{List, [], _∷_, _++_}
+-- What one record comes to: what is held afterwards, and the line.
+use Prim.Native.Nat.{ℕ, _+_, _*_}
+use mathlib.Core.Bool.{Bool, true, false}
+use mathlib.Core.List.{List, [], _++_}
+use lib.ListN.{take}
 use Rattle.judge.specs.declared.clock.Reading.{Reading}
-use Rattle.queue.specs.Ring.{oldestIn}
-use Rattle.wire.specs.Message.{encode, dataIn}
 use Rattle.rules.specs.Answers.{numberOf}
-use Rattle.rules.specs.Settings.{inRangeOf}
+use Rattle.rules.specs.Rules.{leastRoom}
 use Rattle.rules.specs.declared.act.Event.{Event}
-use Rattle.rules.specs.declared.settings.Settings.{Settings}
-use Rattle.rules.specs.declared.state.Role.{Role}
-use Rattle.link.specs.Make.{freshEnd}
-use Rattle.link.specs.Place.{queueAfter}
-use Rattle.link.specs.Step.{effectOf}
-use Rattle.link.specs.declared.effect.Effect.{Effect}
+use Rattle.rules.specs.declared.answer.Answer.{Answer}
+use Rattle.link.specs.Make.{madeOf}
+use Rattle.link.specs.Step.{Result, stepped}
 use Rattle.link.specs.declared.effect.Flags.{Flags}
-use Rattle.link.specs.declared.effect.Placing.{Placing}
-use Rattle.link.specs.declared.effect.Placing.the-variants.{Nothing, Send, SendUser, SendOldest, Deliver, Store}
+use Rattle.link.specs.declared.effect.Front.{Front}
+use Rattle.link.specs.declared.effect.Front.the-variants.{Nothing, Message, Datum}
+use Rattle.link.specs.declared.make.Made.{Made}
+use Rattle.link.specs.declared.make.Made.the-variants.{Fresh, Refused}
 use Rattle.script.specs.Record.{recordIn, givenIn}
-use Rattle.script.specs.Words.{hexOf, decimalOf, askWord, acceptWord, upWord, errorWord, releaseWord, downWord, sendWord, dataWord, badLine, wordIf}
+use Rattle.script.specs.Words.{hexOf, decimalOf, askWord, acceptWord, upWord, errorWord, releaseWord, downWord, sendWord, dataWord, badLine, lineEnd, wordIf}
 use Rattle.script.specs.declared.desk.Desk.{Desk}
 use Rattle.script.specs.declared.desk.Desk.the-variants.{Empty, Holding}
 use Rattle.script.specs.declared.record.Record.{Record}
 use Rattle.script.specs.declared.record.Record.the-variants.{Make, Happen, Bad}
 
-pub record Reply : Type 0 where
+-- what is held between records: the end, the bytes of its queue, and the output that is lent to every event
+pub record Held : Type 0 where
   pub desk : Desk
   pub queue : List ℕ
+  pub out : List ℕ
+
+pub record Reply : Type 0 where
+  pub held : Held
   pub text : List ℕ
   pub bad : Bool
 
--- the room that every event is lent: enough, so that answer 14 is never given
-abbrev pub scratchSize : ℕ
-scratchSize = 128
-
 -- ---- the line
 
--- a message or datum that is given out, after its word
-abbrev pub givenOut : Placing → List ℕ → List ℕ → List ℕ
-givenOut Nothing given q = []
-givenOut (Send m) given q = sendWord ++ hexOf (encode m [])
-givenOut (SendUser m) given q = sendWord ++ hexOf (encode m given)
-givenOut (SendOldest m r) given q = sendWord ++ hexOf (encode m (oldestIn q r))
-givenOut Deliver given q = dataWord ++ hexOf (dataIn given)
-givenOut (Store r) given q = []
+-- the message or datum that stands at the front of the output, after its word
+abbrev pub shown : Front → List ℕ → List ℕ
+shown Nothing out = []
+shown (Message n) out = sendWord ++ hexOf (take n out)
+shown (Datum n) out = dataWord ++ hexOf (take n out)
 
 abbrev pub before : Flags → List ℕ
 before f = wordIf (f .ask) askWord ++ wordIf (f .accept) acceptWord
 
 abbrev pub after : Flags → List ℕ
-after f = wordIf (f .up) upWord ++ wordIf (f .error) errorWord ++ wordIf (f .release) releaseWord ++ wordIf (f .down) downWord
+after f = wordIf (f .up) upWord ++ (wordIf (f .error) errorWord ++ (wordIf (f .release) releaseWord ++ wordIf (f .down) downWord))
 
 -- the number, then the outputs in order, then a line end
-unfoldable pub lineOf : Effect → List ℕ → List ℕ → List ℕ
-lineOf f given q =
-    decimalOf (numberOf (f .answer)) ++ before (f .flags) ++ givenOut (f .placing) given q ++ after (f .flags) ++ (10 ∷ [])
+unfoldable pub lineOf : Answer → Flags → Front → List ℕ → List ℕ
+lineOf answer flags front out =
+    decimalOf (numberOf answer) ++ (before flags ++ (shown front out ++ (after flags ++ lineEnd)))
+
+-- no line is longer
+abbrev pub lineRoom : ℕ
+lineRoom = 2 * leastRoom + 64
 
 -- ---- one record
 
-abbrev pub numbered : Desk → List ℕ → ℕ → Reply
-numbered desk q n = record { desk = desk; queue = q; text = (48 + n) ∷ 10 ∷ []; bad = false }
+abbrev pub numbered : Held → ℕ → Reply
+numbered h n = record { held = h; text = decimalOf n ++ lineEnd; bad = false }
 
--- a later valid make starts anew; a refused one keeps the end there was
-abbrev pub making : Desk → Role → Reading → Settings → List ℕ → Reply
-making desk role at settings q =
-    cond (inRangeOf settings) (numbered (Holding (freshEnd role at settings)) q 0) (numbered desk q 1)
+abbrev pub heldAs : Desk → List ℕ → List ℕ → Held
+heldAs desk queue out = record { desk = desk; queue = queue; out = out }
 
-abbrev pub happening : Desk → Event → Reading → List ℕ → List ℕ → Reply
-happening Empty event at given q = numbered Empty q 3
-happening (Holding e) event at given q =
+-- a valid make starts anew, and a refused one keeps the end there was
+abbrev pub deskAfter : Made → Desk → Desk
+deskAfter (Fresh e) desk = Holding e
+deskAfter (Refused answer) desk = desk
+
+abbrev pub numberAfter : Made → ℕ
+numberAfter (Fresh e) = 0
+numberAfter (Refused answer) = numberOf answer
+
+abbrev pub making : Held → Made → Reply
+making h m = numbered (heldAs (deskAfter m (h .desk)) (h .queue) (h .out)) (numberAfter m)
+
+abbrev pub told : Result → Reply
+told r =
     record {
-      desk = Holding (effectOf e event at given scratchSize .end);
-      queue = queueAfter (effectOf e event at given scratchSize .placing) given q;
-      text = lineOf (effectOf e event at given scratchSize) given q;
+      held = heldAs (Holding (r .outcome .end)) (r .queue) (r .out);
+      text = lineOf (r .outcome .answer) (r .outcome .flags) (r .outcome .front) (r .out);
       bad = false;
     }
 
-abbrev pub replyFor : Record → Desk → List ℕ → List ℕ → Reply
-replyFor (Make role at settings) desk s q = making desk role at settings q
-replyFor (Happen event at n) desk s q = happening desk event at (givenIn s n) q
-replyFor Bad desk s q = record { desk = desk; queue = q; text = badLine; bad = true }
+-- events before a valid make answer 3
+abbrev pub happening : Held → Desk → Event → Reading → List ℕ → Reply
+happening h Empty event at given = numbered h 3
+happening h (Holding e) event at given = told (stepped e event at given (h .out) (h .queue))
 
--- the record stands at the front of s, whole
-unfoldable pub replyTo : Desk → List ℕ → List ℕ → Reply
-replyTo desk s q = replyFor (recordIn s) desk s q
+abbrev pub replyFor : Held → Record → List ℕ → Reply
+replyFor h (Make role at settings) s = making h (madeOf role at settings)
+replyFor h (Happen event at n) s = happening h (h .desk) event at (givenIn s n)
+replyFor h Bad s = record { held = h; text = badLine; bad = true }
+
+-- the record stands at the front of s
+unfoldable pub replyTo : Held → List ℕ → Reply
+replyTo h s = replyFor h (recordIn s) s

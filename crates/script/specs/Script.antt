@@ -5,22 +5,33 @@ use mathlib.Core.List.{List, [], _++_}
 use lib.Dec.{eqb}
 use lib.ListN.{length, getD, drop, replicate}
 use Rattle.queue.specs.Ring.{size}
+use Rattle.rules.specs.Rules.{leastRoom}
 use Rattle.script.specs.Record.{sizeOf}
-use Rattle.script.specs.Reply.{Reply, replyTo}
-use Rattle.script.specs.declared.desk.Desk.{Desk}
+use Rattle.script.specs.Reply.{Held, Reply, replyTo}
 use Rattle.script.specs.declared.desk.Desk.the-variants.{Empty}
 
--- what the reply prints, and the rest of the script after it; a bad record ends the script
-abbrev pub andThen : Reply → (Desk → List ℕ → List ℕ) → List ℕ
-andThen r rest = cond (r .bad) (r .text) (r .text ++ rest (r .desk) (r .queue))
+-- what follows the record at the front of s
+abbrev pub following : List ℕ → List ℕ
+following s = drop (sizeOf (getD s 0 0)) s
+
+-- a reply's line, and then the rest; a bad record ends the script
+abbrev pub andThen : Reply → (Held → List ℕ) → List ℕ
+andThen r rest = cond (r .bad) (r .text) (r .text ++ rest (r .held))
+
+-- so many records at most
+unfoldable pub printedBy : ℕ → Held → List ℕ → List ℕ
+printedBy zero h s = []
+printedBy (suc n) h s =
+    let rest : Held → List ℕ = λ k. printedBy n k (following s) in cond (eqb (length s) 0) [] (andThen (replyTo h s) rest)
 
 -- no script of n bytes has more than n records
-unfoldable pub printedBy : ℕ → Desk → List ℕ → List ℕ → List ℕ
-printedBy zero desk s q = []
-printedBy (suc n) desk s q =
-    let rest : Desk → List ℕ → List ℕ = λ d p. printedBy n d (drop (sizeOf (getD s 0 0)) s) p in
-    cond (eqb (length s) 0) [] (andThen (replyTo desk s q) rest)
+abbrev pub printedFrom : Held → List ℕ → List ℕ
+printedFrom h s = printedBy (length s) h s
 
--- an unknown kind, a cut record, a role over 1 and a length over the field print `bad record` and end
+-- no end yet, a queue of zeros, and an output of the least room for every event
+abbrev pub atFirst : Held
+atFirst = record { desk = Empty; queue = replicate size 0; out = replicate leastRoom 0 }
+
+-- from bytes to bytes
 pub printed : List ℕ → List ℕ
-printed s = printedBy (length s) Empty s (replicate size 0)
+printed s = printedFrom atFirst s

@@ -5,12 +5,12 @@ use mathlib.Core.List.{List, [], _∷_}
 use lib.Dec.{ltb}
 
 -- a digit below 16, in lower case
-abbrev pub digit : ℕ → ℕ
-digit n = cond (ltb n 10) (48 + n) (87 + n)
+abbrev pub digitOf : ℕ → ℕ
+digitOf n = cond (ltb n 10) (48 + n) (87 + n)
 
 abbrev pub hexOf : List ℕ → List ℕ
 hexOf [] = []
-hexOf (b ∷ bs) = digit (b / 16) ∷ digit (b % 16) ∷ hexOf bs
+hexOf (b ∷ bs) = digitOf (b / 16) ∷ digitOf (b % 16) ∷ hexOf bs
 
 -- a number below 100
 abbrev pub decimalOf : ℕ → List ℕ
@@ -40,6 +40,9 @@ sendWord = 32 ∷ 115 ∷ 101 ∷ 110 ∷ 100 ∷ 32 ∷ []
 
 abbrev pub dataWord : List ℕ
 dataWord = 32 ∷ 100 ∷ 97 ∷ 116 ∷ 97 ∷ 32 ∷ []
+
+abbrev pub lineEnd : List ℕ
+lineEnd = 10 ∷ []
 
 -- "bad record" and a line end
 abbrev pub badLine : List ℕ

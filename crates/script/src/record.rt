@@ -3,6 +3,8 @@ ghost use mathlib.Core.Path.{_≡_};
 ghost use Prim.Native.Nat.{_+_, _≤_};
 ghost use lib.ListN.{length, getD};
 ghost use Rattle.script.specs.Record.{sizeOf, readingAt, settingsIn, makeIn, lengthyIn, kindIn, recordIn, givenIn};
+use crate::part::first;
+use crate::part::past;
 use judge::clock::Reading;
 use rules::act::Event;
 use rules::settings::Settings;
@@ -156,9 +158,7 @@ fn read_settings(s: &[u8]) -> Settings
 
 // The bytes that come with an event, as a part of its record.
 pub fn given_in(s: &[u8], n: usize) -> &[u8]
-    requires { ⌜ 6 + n ≤ length (now s) ⌝ }
     ensures { λ r. ⌜ now r ≡ givenIn (now (s .entry)) n ⌝ }
 {
-    let end = 6 + n;
-    &s[6..end]
+    first(past(s, 6), n)
 }

@@ -1,24 +1,20 @@
 -- `script::record::given_in` meets its contract.
-use native.Mathlib.Nat.{add-sub-cancel-left}
-use native.Mathlib.Nat.{add-sub-cancel-left}
+use mathlib.Core.Path.{ap, _∙_}
+use mathlib.Core.List.{List}
+use Prim.Native.Nat.{ℕ}
+use lib.ListN.{take}
 use borrow.Author.Needs.{needs}
 use Rattle.script.proofs.record.given_in.Statement.{statement}
 use Rattle.script.proofs.record.given_in.Tie as tie
 
-add-end : tie.Need-add-end
-add-end c = search needs
+past-requires : tie.Need-past-requires
+past-requires c κs = search needs
 
-sub-result : tie.Need-sub-result
-sub-result c = search needs
-
-part-result-start : tie.Need-part-result-start
-part-result-start c = search needs
-
-part-result-end : tie.Need-part-result-end
-part-result-end c = search needs
+first-requires : tie.Need-first-requires
+first-requires c κs = search needs
 
 returns : tie.Need-returns
-returns c = simp add-sub-cancel-left
+returns c = c .first .ensures .0 ∙ ap (λ (l : List ℕ). take (c .before .before .before .args .n) l) (c .before .past .ensures)
 
 pub given-in-spec : {M : Type 1} → statement M
-given-in-spec = tie.close (tie.spec add-end sub-result part-result-start part-result-end returns)
+given-in-spec = tie.close (tie.spec past-requires first-requires returns)

@@ -1,0 +1,39 @@
+-- `script::line::put_before` meets its contract.
+use native.Mathlib.Omega.{arith}
+use Rattle.script.specs.Words.{wordIf, askWord, acceptWord}
+use Rattle.script.proofs.Puts.{put-then}
+use borrow.Author.Needs.{needs}
+use Rattle.script.proofs.line.put_before.Statement.{statement}
+use Rattle.script.proofs.line.put_before.Tie as tie
+
+slice-aggregate-put-if : tie.Need-slice-aggregate-put-if
+slice-aggregate-put-if c = search needs
+
+put-if-requires : tie.Need-put-if-requires
+put-if-requires c κs = search needs
+
+slice-aggregate-put-if-2 : tie.Need-slice-aggregate-put-if-2
+slice-aggregate-put-if-2 c = search needs
+
+put-if-requires-2 : tie.Need-put-if-requires-2
+put-if-requires-2 c κs = search needs
+
+same-length : tie.Need-same-length
+same-length c = search needs
+
+returns : tie.Need-returns
+returns c = let f = c .before .before .before .before .before .before .before .before .before .before .before .args .flags in
+    let p = c .before .before .before .before .before .before .before .put-if .ensures in
+    let q = c .before .before .put-if2 .ensures in
+    (put-then (wordIf (f .ask) askWord) (wordIf (f .accept) acceptWord) (p .0) (q .0), omega (arith, p .1, q .1))
+
+pub put-before-spec : {M : Type 1} → statement M
+put-before-spec =
+    tie.close
+    (tie.spec
+    slice-aggregate-put-if
+    put-if-requires
+    slice-aggregate-put-if-2
+    put-if-requires-2
+    same-length
+    returns)

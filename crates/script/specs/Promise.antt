@@ -1,0 +1,23 @@
+-- What the functions that answer records promise, said once.
+use Prim.Native.Nat.{ℕ, _+_, _≤_}
+use mathlib.Core.List.{List}
+use mathlib.Core.Path.{_≡_}
+use Rattle.script.specs.Put.{Put}
+use Rattle.script.specs.Reply.{Reply, lineRoom}
+use Rattle.script.specs.Play.{Piece}
+use Rattle.script.specs.declared.play.Played.{Played}
+use Rattle.script.specs.declared.reply.Replied.{Replied}
+
+-- r tells the reply x, whose line was put into the text `before` from place `at` on
+pub record Tells (x : Reply) (before : List ℕ) (at : ℕ) (r : Replied) (after : List ℕ) : Type 0 where
+  pub desk : r .desk ≡ x .held .desk
+  pub bad : r .bad ≡ x .bad
+  pub line : Put before at (x .text) after (r .to)
+  pub short : r .to ≤ at + lineRoom
+
+-- r tells what playing a piece came to, whose lines stand at the front of the text
+pub record Plays (p : Piece) (before : List ℕ) (r : Played) (after : List ℕ) : Type 0 where
+  pub desk : r .desk ≡ p .held .desk
+  pub used : r .used ≡ p .used
+  pub ended : r .ended ≡ p .ended
+  pub lines : Put before 0 (p .text) after (r .wrote)

@@ -1,0 +1,2 @@
+-- Proofs that belong to no one function.
+pub mod Moving

@@ -1,0 +1,1 @@
+"""The notation for Sunday scripts: records and answers in words, and back."""
