@@ -2,3 +2,5 @@
 pub mod Unlisted
 pub mod Puts
 pub mod Playing
+pub mod Longer
+pub mod Claims

@@ -73,7 +73,7 @@ same-turn true b u e f x y is = refl
 same-turn false true u e f x y is = refl
 same-turn false false u e f x y is = ap f (is refl refl)
 
-rest-shorter : (h : Held) (s : List ℕ) (n : ℕ) → replyTo h s .bad ≡ false → length s ≤ suc n → length (following s) ≤ n
+pub rest-shorter : (h : Held) (s : List ℕ) (n : ℕ) → replyTo h s .bad ≡ false → length s ≤ suc n → length (following s) ≤ n
 rest-shorter h s n good fits = omega (arith, length-drop (sizeOf (getD s 0 0)) s, has-size h s good, is-whole h s good, fits)
 
 enough : (n m : ℕ) (last : Bool) (h : Held) (s : List ℕ) (room : ℕ) → length s ≤ n → length s ≤ m
@@ -249,7 +249,7 @@ not-is : (b : Bool) {c : Bool} → c ≡ not b → (c ≡ true → b ≡ false) 
 not-is true is = ((λ so. absurd (false≢true (sym is ∙ so))), λ none. refl)
 not-is false is = ((λ so. refl), λ none. absurd (false≢true (sym none ∙ is)))
 
-both-false : (a b : Bool) → a || b ≡ false → (a ≡ false) × (b ≡ false)
+pub both-false : (a b : Bool) → a || b ≡ false → (a ≡ false) × (b ≡ false)
 both-false true b is = absurd (false≢true (sym is))
 both-false false b is = (refl, is)
 

@@ -5,3 +5,4 @@ pub mod Script
 pub mod Play
 pub mod Put
 pub mod Promise
+pub mod Claims
