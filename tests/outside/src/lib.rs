@@ -6,7 +6,8 @@
 //! [`dice`], [`tape`], [`shapes`], [`forge`], [`life`], [`plan`] and [`long`]
 //! write scripts; [`cover`], [`point`], [`side`] and [`reach`] count what the
 //! scripts met. [`program`], [`compare`], [`station`], [`watch`] and [`pair`]
-//! deal with a program under test, and [`args`] with the command line.
+//! deal with a program under test, [`args`] with the command line, and [`receive`]
+//! is a job to be timed.
 
 pub mod args;
 pub mod clock;
@@ -23,6 +24,7 @@ pub mod plan;
 pub mod point;
 pub mod program;
 pub mod reach;
+pub mod receive;
 pub mod record;
 pub mod script;
 pub mod settings;

@@ -10,7 +10,7 @@ use outside::script;
 use outside::settings::Role;
 use outside::station::Station;
 use outside::watch::Tally;
-use outside::{long, plan, words};
+use outside::{long, plan, receive, words};
 use std::io::{self, BufWriter, Read, Write};
 use std::path::PathBuf;
 use std::process::ExitCode;
@@ -25,7 +25,8 @@ outside compare --program CMD.. [--scripts N] [--seed S] [--no-long] [--any-cove
                 [--patience SECONDS] [--keep DIRECTORY]
 outside pair --program CMD.. [--scenes N] [--seed S] [--no-long] [--batch]
              [--patience SECONDS]
-outside pair --self [--scenes N] [--seed S] [--no-long]";
+outside pair --self [--scenes N] [--seed S] [--no-long]
+outside receive < messages   the receiving job, to be timed";
 
 const SCRIPTS: u64 = 300;
 const SCENES: u64 = 200;
@@ -54,6 +55,7 @@ fn command(name: &str, rest: &[String]) -> Result<(), String> {
         "cover" => cover(rest),
         "compare" => compare_command(rest),
         "pair" => pair_command(rest),
+        "receive" => receive_command(),
         _ => Err(format!("there is no command {name:?}\n{USAGE}")),
     }
 }
@@ -74,6 +76,12 @@ fn print(bytes: &[u8]) -> Result<(), String> {
 
 fn say(line: &str) -> Result<(), String> {
     print(format!("{line}\n").as_bytes())
+}
+
+fn receive_command() -> Result<(), String> {
+    let mut messages = [0; receive::INPUT];
+    said(io::stdin().lock().read_exact(&mut messages))?;
+    say(&format!("{} delivered", receive::receive(&mut messages)?))
 }
 
 fn generate(rest: &[String]) -> Result<(), String> {
