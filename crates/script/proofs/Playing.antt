@@ -158,16 +158,10 @@ one-more {p} {before} n x rest {done} {wrote} {to} {text} {after} so put =
           ∙ so .stored;
     }
 
--- a record was answered
-pub record Answered (h : Held) (s text : List ℕ) (wrote : ℕ) (r : Replied) (queue′ out′ after : List ℕ) : Type 0 where
-  pub tells : Tells (replyTo h s) text wrote r after
-  pub queue : queue′ ≡ replyTo h s .held .queue
-  pub out : out′ ≡ replyTo h s .held .out
-
-pub answered-at : {h : Held} {rest s text : List ℕ} {wrote : ℕ} {r : Replied} {queue out after : List ℕ} → rest ≡ s
-    → Answered h rest text wrote r queue out after → Answered h s text wrote r queue out after
-answered-at {h} {rest} {s} {text} {wrote} {r} {queue} {out} {after} same said =
-    subst (λ (l : List ℕ). Answered h l text wrote r queue out after) same said
+pub tells-at : (h : Held) {rest s text : List ℕ} {wrote : ℕ} {r : Replied} {after queue out : List ℕ} → rest ≡ s
+    → Tells (replyTo h rest) text wrote r after queue out → Tells (replyTo h s) text wrote r after queue out
+tells-at h {rest} {s} {text} {wrote} {r} {after} {queue} {out} same said =
+    subst (λ (l : List ℕ). Tells (replyTo h l) text wrote r after queue out) same said
 
 module _ {p : Piece} {before : List ℕ} (last : Bool) (desk : Desk) (queue out s : List ℕ) (room done wrote : ℕ) {text : List ℕ}
     (so : Remains p before (played last (heldAs desk queue out) (drop done s) (room - wrote)) done wrote text) where
@@ -179,41 +173,38 @@ module _ {p : Piece} {before : List ℕ} (last : Bool) (desk : Desk) (queue out 
 
   -- nothing more is answered
   pub it-pauses : pauses last (drop done s) (room - wrote) ≡ true
-      → Plays p before (record { desk = desk; used = done; wrote = wrote; ended = false }) text
-      × ((queue ≡ p .held .queue) × (out ≡ p .held .out))
+      → Plays p before (record { desk = desk; used = done; wrote = wrote; ended = false }) text queue out
   it-pauses rests =
       let end : Remains p before (unplayed here) done wrote text =
-      subst (λ (r : Piece). Remains p before r done wrote text) (played-pauses last here (drop done s) (room - wrote) rests) so in (
-        record {
-          desk = sym (ap (λ (h : Held). h .desk) (end .held));
-          used = omega (arith, end .used);
-          ended = sym (end .ended);
-          lines = record { next = omega (arith, end .count); stored = end .stored };
-        },
-        (sym (ap (λ (h : Held). h .queue) (end .held)), sym (ap (λ (h : Held). h .out) (end .held))),
-      )
+      subst (λ (r : Piece). Remains p before r done wrote text) (played-pauses last here (drop done s) (room - wrote) rests) so in
+      record {
+        desk = sym (ap (λ (h : Held). h .desk) (end .held));
+        queue = sym (ap (λ (h : Held). h .queue) (end .held));
+        out = sym (ap (λ (h : Held). h .out) (end .held));
+        used = omega (arith, end .used);
+        ended = sym (end .ended);
+        lines = record { next = omega (arith, end .count); stored = end .stored };
+      }
 
-  module _ {r : Replied} {queue′ out′ after : List ℕ} (goes : pauses last (drop done s) (room - wrote) ≡ false)
-      (said : Answered here (drop done s) text wrote r queue′ out′ after) where
+  module _ {r : Replied} {after queue′ out′ : List ℕ} (goes : pauses last (drop done s) (room - wrote) ≡ false)
+      (said : Tells told text wrote r after queue′ out′) where
     told-bad : {b : Bool} → r .bad ≡ b → told .bad ≡ b
-    told-bad is = sym (said .tells .bad) ∙ is
+    told-bad is = sym (said .bad) ∙ is
 
     -- a bad record ends it
-    pub it-ends : r .bad ≡ true
-        → Plays p before (record { desk = r .desk; used = done; wrote = r .to; ended = true }) after
-        × ((queue′ ≡ p .held .queue) × (out′ ≡ p .held .out))
+    pub it-ends : r .bad ≡ true → Plays p before (record { desk = r .desk; used = done; wrote = r .to; ended = true }) after queue′ out′
     it-ends bad =
         let end : Remains p before (endedBy told) done wrote text =
         subst (λ (x : Piece). Remains p before x done wrote text) (played-ends last here (drop done s) (room - wrote) goes (told-bad bad)) so in
-        let line = said .tells .line in (
-          record {
-            desk = said .tells .desk ∙ sym (ap (λ (h : Held). h .desk) (end .held));
-            used = omega (arith, end .used);
-            ended = sym (end .ended);
-            lines = record { next = omega (arith, end .count, line .next); stored = line .stored ∙ end .stored };
-          },
-          (said .queue ∙ sym (ap (λ (h : Held). h .queue) (end .held)), said .out ∙ sym (ap (λ (h : Held). h .out) (end .held))),
-        )
+        let line = said .line in
+        record {
+          desk = said .desk ∙ sym (ap (λ (h : Held). h .desk) (end .held));
+          queue = said .queue ∙ sym (ap (λ (h : Held). h .queue) (end .held));
+          out = said .out ∙ sym (ap (λ (h : Held). h .out) (end .held));
+          used = omega (arith, end .used);
+          ended = sym (end .ended);
+          lines = record { next = omega (arith, end .count, line .next); stored = line .stored ∙ end .stored };
+        }
 
     module _ {n : ℕ} (good : r .bad ≡ false) (size : n ≡ sizeOf (getD (drop done s) 0 0)) where
       pub some-used : 0 < n
@@ -231,13 +222,13 @@ module _ {p : Piece} {before : List ℕ} (last : Bool) (desk : Desk) (queue out 
           let more : Remains p before (joined n told rest) done wrote text =
           subst (λ (x : Piece). Remains p before x done wrote text)
           (played-goes last here (drop done s) (room - wrote) goes (told-bad good) ∙ ap (λ (k : ℕ). joined k told rest) (sym size)) so in
-          let less : space ≡ room - r .to = omega (arith, said .tells .line .next) in
+          let less : space ≡ room - r .to = omega (arith, said .line .next) in
           let is : rest ≡ played last next (drop (done + n) s) (room - r .to) =
-          ap (λ (h : Held). played last h (following (drop done s)) space) (held-again (told .held) (r .desk) queue′ out′ (said .tells .desk) (said .queue) (said .out))
+          ap (λ (h : Held). played last h (following (drop done s)) space) (held-again (told .held) (r .desk) queue′ out′ (said .desk) (said .queue) (said .out))
           ∙ ap (λ (k : ℕ). played last next (drop k (drop done s)) space) (sym size)
           ∙ ap (λ (l : List ℕ). played last next l space) (drop-drop n done s)
           ∙ ap (λ (k : ℕ). played last next (drop (done + n) s) k) less in
-          subst (λ (x : Piece). Remains p before x (done + n) (r .to) after) is (one-more n told rest more (said .tells .line))
+          subst (λ (x : Piece). Remains p before x (done + n) (r .to) after) is (one-more n told rest more (said .line))
 
 pub no-front : (s : List ℕ) → length s ≡ 0 → 0 ≡ sizeOf (getD s 0 0)
 no-front [] none = refl

@@ -35,9 +35,7 @@ pub fn play(
     q: &mut [u8; BYTES],
     text: &mut [u8],
 ) -> Played
-    ensures { λ r. ⌜ Plays (played last (heldAs desk (now (q .entry)) (now (out .entry))) (now (s .entry)) (length (now (text .entry)))) (now (text .entry)) r (now (text .exit)) ⌝ }
-    ensures { λ r. ⌜ now (q .exit) ≡ played last (heldAs desk (now (q .entry)) (now (out .entry))) (now (s .entry)) (length (now (text .entry))) .held .queue ⌝ }
-    ensures { λ r. ⌜ now (out .exit) ≡ played last (heldAs desk (now (q .entry)) (now (out .entry))) (now (s .entry)) (length (now (text .entry))) .held .out ⌝ }
+    ensures { λ r. ⌜ Plays (played last (heldAs desk (now (q .entry)) (now (out .entry))) (now (s .entry)) (length (now (text .entry)))) (now (text .entry)) r (now (text .exit)) (now (q .exit)) (now (out .exit)) ⌝ }
     ensures { λ r. ⌜ (r .used ≤ length (now (s .entry))) × (r .wrote ≤ length (now (text .entry))) ⌝ }
 {
     let mut held = desk;

@@ -43,9 +43,7 @@ pub fn reply(
     q: &mut [u8; BYTES],
     text: &mut [u8; LINE],
 ) -> Replied
-    ensures { λ r. ⌜ Tells (replyTo (heldAs desk (now (q .entry)) (now (out .entry))) (now (s .entry))) (now (text .entry)) 0 r (now (text .exit)) ⌝ }
-    ensures { λ r. ⌜ now (q .exit) ≡ replyTo (heldAs desk (now (q .entry)) (now (out .entry))) (now (s .entry)) .held .queue ⌝ }
-    ensures { λ r. ⌜ now (out .exit) ≡ replyTo (heldAs desk (now (q .entry)) (now (out .entry))) (now (s .entry)) .held .out ⌝ }
+    ensures { λ r. ⌜ Tells (replyTo (heldAs desk (now (q .entry)) (now (out .entry))) (now (s .entry))) (now (text .entry)) 0 r (now (text .exit)) (now (q .exit)) (now (out .exit)) ⌝ }
 {
     reply_at(desk, s, out, q, text, 0)
 }
@@ -60,9 +58,7 @@ pub(crate) fn reply_at(
     at: usize,
 ) -> Replied
     requires { ⌜ at + lineRoom ≤ length (now text) ⌝ }
-    ensures { λ r. ⌜ Tells (replyTo (heldAs desk (now (q .entry)) (now (out .entry))) (now (s .entry))) (now (text .entry)) at r (now (text .exit)) ⌝ }
-    ensures { λ r. ⌜ now (q .exit) ≡ replyTo (heldAs desk (now (q .entry)) (now (out .entry))) (now (s .entry)) .held .queue ⌝ }
-    ensures { λ r. ⌜ now (out .exit) ≡ replyTo (heldAs desk (now (q .entry)) (now (out .entry))) (now (s .entry)) .held .out ⌝ }
+    ensures { λ r. ⌜ Tells (replyTo (heldAs desk (now (q .entry)) (now (out .entry))) (now (s .entry))) (now (text .entry)) at r (now (text .exit)) (now (q .exit)) (now (out .exit)) ⌝ }
 {
     match read_record(s) {
         Record::Make {
@@ -96,7 +92,7 @@ fn making(
     at: usize,
 ) -> Replied
     requires { ⌜ at + lineRoom ≤ length (now text) ⌝ }
-    ensures { λ r. ⌜ ((q out : List ℕ) → Tells (makingReply (heldAs desk q out) (madeOf role made settings)) (now (text .entry)) at r (now (text .exit))) ⌝ }
+    ensures { λ r. ⌜ ((q out : List ℕ) → Tells (makingReply (heldAs desk q out) (madeOf role made settings)) (now (text .entry)) at r (now (text .exit)) q out) ⌝ }
 {
     match make(role, made, settings) {
         Made::Fresh(e) => numbered(Desk::Holding(e), 0, text, at),
@@ -115,9 +111,7 @@ fn happening(
     at: usize,
 ) -> Replied
     requires { ⌜ at + lineRoom ≤ length (now text) ⌝ }
-    ensures { λ r. ⌜ Tells (happeningReply (heldAs desk (now (q .entry)) (now (out .entry))) desk event moment (now (given .entry))) (now (text .entry)) at r (now (text .exit)) ⌝ }
-    ensures { λ r. ⌜ now (q .exit) ≡ happeningReply (heldAs desk (now (q .entry)) (now (out .entry))) desk event moment (now (given .entry)) .held .queue ⌝ }
-    ensures { λ r. ⌜ now (out .exit) ≡ happeningReply (heldAs desk (now (q .entry)) (now (out .entry))) desk event moment (now (given .entry)) .held .out ⌝ }
+    ensures { λ r. ⌜ Tells (happeningReply (heldAs desk (now (q .entry)) (now (out .entry))) desk event moment (now (given .entry))) (now (text .entry)) at r (now (text .exit)) (now (q .exit)) (now (out .exit)) ⌝ }
 {
     match desk {
         Desk::Empty => numbered(Desk::Empty, 3, text, at),
@@ -140,7 +134,7 @@ fn happening(
 // A line with a number alone.
 fn numbered(desk: Desk, n: u8, text: &mut [u8], at: usize) -> Replied
     requires { ⌜ (n < 100) × (at + lineRoom ≤ length (now text)) ⌝ }
-    ensures { λ r. ⌜ ((q out : List ℕ) → Tells (numberedReply (heldAs desk q out) n) (now (text .entry)) at r (now (text .exit))) ⌝ }
+    ensures { λ r. ⌜ ((q out : List ℕ) → Tells (numberedReply (heldAs desk q out) n) (now (text .entry)) at r (now (text .exit)) q out) ⌝ }
 {
     let a = put_number(text, at, n);
     let to = put(text, a, b"\n");

@@ -9,7 +9,7 @@ use borrow.Author.Needs.{needs}
 use denote.Ref.{now}
 use Rattle.script.specs.Reply.{heldAs}
 use Rattle.script.specs.Play.{played}
-use Rattle.script.proofs.Playing.{Remains, at-first, answered-at, goes-then, pauses-then, room-left, it-pauses, it-ends, it-goes, some-used, used-fits}
+use Rattle.script.proofs.Playing.{Remains, at-first, tells-at, goes-then, pauses-then, room-left, it-pauses, it-ends, it-goes, some-used, used-fits}
 use Rattle.script.proofs.play.play.Statement.{statement}
 use Rattle.script.proofs.play.play.Tie as tie
 
@@ -47,10 +47,10 @@ returns : tie.Need-returns Inv-loop μ-loop
 returns c = let l = c .before .before .before .before .before .before .before .before .before .before .before .loop in let a = c .before .before .before .before .before .before .before .before .before .before .before .before .before .before .args in
     let n : length (l .text) - l .wrote ≡ length (now (a .text)) - l .wrote = ap (λ (k : ℕ). k - l .wrote) (l .inv .2) in
     let goes = goes-then (a .last) {s = drop (l .used) (now (a .s))} (c .before .before .before .before .before .before .before .before .before .goes-on .ensures) (c .before .before .before .before .before .before .before .before .before .before .past .ensures) n (c .before .before .before .before .before .before .before .before .if1 .taken) in
-    let said = answered-at (c .before .before .before .before .before .before .before .past2 .ensures) (record { tells = c .before .before .before .reply-at .ensures .0; queue = c .before .before .before .reply-at .ensures .1 .0; out = c .before .before .before .reply-at .ensures .1 .1 }) in
+    let said = tells-at (heldAs (l .held) (l .q) (l .out)) (c .before .before .before .before .before .before .before .past2 .ensures) (c .before .before .before .reply-at .ensures) in
     let all = it-ends (a .last) (l .held) (l .q) (l .out) (now (a .s)) (length (now (a .text))) (l .used) (l .wrote) (l .inv .3) goes said (c .if2 .taken) in
     let left = room-left (a .last) (drop (l .used) (now (a .s))) (length (now (a .text)) - l .wrote) goes in
-    (all .0, (all .1 .0, (all .1 .1, (l .inv .0, omega (arith, left, said .tells .short, l .inv .1)))))
+    (all, (l .inv .0, omega (arith, left, said .short, l .inv .1)))
 
 past-requires-3 : tie.Need-past-requires-3 Inv-loop μ-loop
 past-requires-3 c κs = search needs
@@ -62,7 +62,7 @@ add-used : tie.Need-add-used Inv-loop μ-loop
 add-used c = let l = c .before .before .before .before .before .before .before .before .before .before .before .before .before .loop in let a = c .before .before .before .before .before .before .before .before .before .before .before .before .before .before .before .before .args in
     let n : length (l .text) - l .wrote ≡ length (now (a .text)) - l .wrote = ap (λ (k : ℕ). k - l .wrote) (l .inv .2) in
     let goes = goes-then (a .last) {s = drop (l .used) (now (a .s))} (c .before .before .before .before .before .before .before .before .before .before .before .goes-on .ensures) (c .before .before .before .before .before .before .before .before .before .before .before .before .past .ensures) n (c .before .before .before .before .before .before .before .before .before .before .if1 .taken) in
-    let said = answered-at (c .before .before .before .before .before .before .before .before .before .past2 .ensures) (record { tells = c .before .before .before .before .before .reply-at .ensures .0; queue = c .before .before .before .before .before .reply-at .ensures .1 .0; out = c .before .before .before .before .before .reply-at .ensures .1 .1 }) in
+    let said = tells-at (heldAs (l .held) (l .q) (l .out)) (c .before .before .before .before .before .before .before .before .before .past2 .ensures) (c .before .before .before .before .before .reply-at .ensures) in
     let size = c .size-at-front .ensures ∙ ap (λ (x : List ℕ). sizeOf (getD x 0 0)) (c .before .past3 .ensures) in
     let fits = used-fits (a .last) (l .held) (l .q) (l .out) (now (a .s)) (length (now (a .text))) (l .used) (l .wrote) (l .inv .3) goes said (c .before .before .if2 .left) size (l .inv .0) in omega (arith, fits, c .before .before .before .before .before .before .before .before .before .before .before .before .before .before .before .before .good .1 .0 .0)
 
@@ -70,7 +70,7 @@ loop-less : tie.Need-loop-less Inv-loop μ-loop
 loop-less c = let l = c .before .before .before .before .before .before .before .before .before .before .before .before .before .loop in let a = c .before .before .before .before .before .before .before .before .before .before .before .before .before .before .before .before .args in
     let n : length (l .text) - l .wrote ≡ length (now (a .text)) - l .wrote = ap (λ (k : ℕ). k - l .wrote) (l .inv .2) in
     let goes = goes-then (a .last) {s = drop (l .used) (now (a .s))} (c .before .before .before .before .before .before .before .before .before .before .before .goes-on .ensures) (c .before .before .before .before .before .before .before .before .before .before .before .before .past .ensures) n (c .before .before .before .before .before .before .before .before .before .before .if1 .taken) in
-    let said = answered-at (c .before .before .before .before .before .before .before .before .before .past2 .ensures) (record { tells = c .before .before .before .before .before .reply-at .ensures .0; queue = c .before .before .before .before .before .reply-at .ensures .1 .0; out = c .before .before .before .before .before .reply-at .ensures .1 .1 }) in
+    let said = tells-at (heldAs (l .held) (l .q) (l .out)) (c .before .before .before .before .before .before .before .before .before .past2 .ensures) (c .before .before .before .before .before .reply-at .ensures) in
     let size = c .size-at-front .ensures ∙ ap (λ (x : List ℕ). sizeOf (getD x 0 0)) (c .before .past3 .ensures) in
     let some = some-used (a .last) (l .held) (l .q) (l .out) (now (a .s)) (length (now (a .text))) (l .used) (l .wrote) (l .inv .3) goes said (c .before .before .if2 .left) size in
     let fits = used-fits (a .last) (l .held) (l .q) (l .out) (now (a .s)) (length (now (a .text))) (l .used) (l .wrote) (l .inv .3) goes said (c .before .before .if2 .left) size (l .inv .0) in omega (arith, some, fits)
@@ -79,10 +79,10 @@ loop-again : tie.Need-loop-again Inv-loop μ-loop
 loop-again c = let l = c .before .before .before .before .before .before .before .before .before .before .before .before .before .loop in let a = c .before .before .before .before .before .before .before .before .before .before .before .before .before .before .before .before .args in
     let n : length (l .text) - l .wrote ≡ length (now (a .text)) - l .wrote = ap (λ (k : ℕ). k - l .wrote) (l .inv .2) in
     let goes = goes-then (a .last) {s = drop (l .used) (now (a .s))} (c .before .before .before .before .before .before .before .before .before .before .before .goes-on .ensures) (c .before .before .before .before .before .before .before .before .before .before .before .before .past .ensures) n (c .before .before .before .before .before .before .before .before .before .before .if1 .taken) in
-    let said = answered-at (c .before .before .before .before .before .before .before .before .before .past2 .ensures) (record { tells = c .before .before .before .before .before .reply-at .ensures .0; queue = c .before .before .before .before .before .reply-at .ensures .1 .0; out = c .before .before .before .before .before .reply-at .ensures .1 .1 }) in
+    let said = tells-at (heldAs (l .held) (l .q) (l .out)) (c .before .before .before .before .before .before .before .before .before .past2 .ensures) (c .before .before .before .before .before .reply-at .ensures) in
     let size = c .size-at-front .ensures ∙ ap (λ (x : List ℕ). sizeOf (getD x 0 0)) (c .before .past3 .ensures) in
     let left = room-left (a .last) (drop (l .used) (now (a .s))) (length (now (a .text)) - l .wrote) goes in
-    (used-fits (a .last) (l .held) (l .q) (l .out) (now (a .s)) (length (now (a .text))) (l .used) (l .wrote) (l .inv .3) goes said (c .before .before .if2 .left) size (l .inv .0), omega (arith, left, said .tells .short, l .inv .1), search needs, it-goes (a .last) (l .held) (l .q) (l .out) (now (a .s)) (length (now (a .text))) (l .used) (l .wrote) (l .inv .3) goes said (c .before .before .if2 .left) size)
+    (used-fits (a .last) (l .held) (l .q) (l .out) (now (a .s)) (length (now (a .text))) (l .used) (l .wrote) (l .inv .3) goes said (c .before .before .if2 .left) size (l .inv .0), omega (arith, left, said .short, l .inv .1), search needs, it-goes (a .last) (l .held) (l .q) (l .out) (now (a .s)) (length (now (a .text))) (l .used) (l .wrote) (l .inv .3) goes said (c .before .before .if2 .left) size)
 
 same-length-2 : tie.Need-same-length-2 Inv-loop μ-loop
 same-length-2 c = search needs
@@ -91,7 +91,7 @@ returns-2 : tie.Need-returns-2 Inv-loop μ-loop
 returns-2 c = let l = c .before .before .before .loop in let a = c .before .before .before .before .before .before .args in
     let n : length (l .text) - l .wrote ≡ length (now (a .text)) - l .wrote = ap (λ (k : ℕ). k - l .wrote) (l .inv .2) in
     let all = it-pauses (a .last) (l .held) (l .q) (l .out) (now (a .s)) (length (now (a .text))) (l .used) (l .wrote) (l .inv .3) (pauses-then (a .last) (c .before .goes-on .ensures) (c .before .before .past .ensures) n (c .if1 .left)) in
-    (all .0, (all .1 .0, (all .1 .1, (l .inv .0, l .inv .1))))
+    (all, (l .inv .0, l .inv .1))
 
 pub play-spec : {M : Type 1} → statement M
 play-spec =

@@ -24,13 +24,13 @@ same-length : tie.Need-same-length
 same-length c = search needs
 
 returns : tie.Need-returns
-returns c = rw (c .before .before .before .before .enum-told .given .1) (c .before .before .numbered .ensures (now (c .before .before .before .before .before .before .before .before .args .q)) (now (c .before .before .before .before .before .before .before .before .args .out)), (refl, refl))
+returns c = rw (c .before .before .before .before .enum-told .given .1) (c .before .before .numbered .ensures (now (c .before .before .before .before .before .before .before .before .args .q)) (now (c .before .before .before .before .before .before .before .before .args .out)))
 
 same-length-2 : tie.Need-same-length-2
 same-length-2 c = search needs
 
 returns-2 : tie.Need-returns-2
-returns-2 c = rw (c .before .before .before .before .before .before .before .before .before .before .before .before .desk .given .1, ← c .before .before .before .before .before .before .before .before .step .ensures) (record { desk = refl; bad = refl; line = c .before .before .put-line .ensures .0; short = c .before .before .put-line .ensures .1 }, (refl, refl))
+returns-2 c = rw (c .before .before .before .before .before .before .before .before .before .before .before .before .desk .given .1, ← c .before .before .before .before .before .before .before .before .step .ensures) (record { desk = refl; queue = refl; out = refl; bad = refl; line = c .before .before .put-line .ensures .0; short = c .before .before .put-line .ensures .1 })
 
 pub happening-spec : {M : Type 1} → statement M
 happening-spec =

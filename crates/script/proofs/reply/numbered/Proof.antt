@@ -23,7 +23,7 @@ returns : tie.Need-returns
 returns c = λ q out.
     let p = c .before .before .before .before .before .before .before .put-number .ensures in
     let u = c .before .before .put .ensures in
-    record { desk = refl; bad = refl; line = put-then (decimalOf (c .before .before .before .before .before .before .before .before .before .before .args .n)) lineEnd (p .0) u; short = omega (arith, p .1, u .next) }
+    record { desk = refl; queue = refl; out = refl; bad = refl; line = put-then (decimalOf (c .before .before .before .before .before .before .before .before .before .before .args .n)) lineEnd (p .0) u; short = omega (arith, p .1, u .next) }
 
 pub numbered-spec : {M : Type 1} → statement M
 numbered-spec =

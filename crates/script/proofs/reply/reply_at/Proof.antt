@@ -39,7 +39,7 @@ same-length c = search needs
 
 returns : tie.Need-returns
 unfolding replyTo
-returns c = rw (← c .before .before .before .before .before .before .before .read-record .ensures, c .before .before .before .before .before .role .given .1) (c .before .before .making .ensures (now (c .before .before .before .before .before .before .before .before .before .before .args .q)) (now (c .before .before .before .before .before .before .before .before .before .before .args .out)), (refl, refl))
+returns c = rw (← c .before .before .before .before .before .before .before .read-record .ensures, c .before .before .before .before .before .role .given .1) (c .before .before .making .ensures (now (c .before .before .before .before .before .before .before .before .before .before .args .q)) (now (c .before .before .before .before .before .before .before .before .before .before .args .out)))
 
 same-length-2 : tie.Need-same-length-2
 same-length-2 c = search needs
@@ -53,7 +53,7 @@ same-length-3 c = search needs
 
 returns-3 : tie.Need-returns-3
 unfolding replyTo
-returns-3 c = rw (← c .before .before .before .before .before .before .before .read-record .ensures, c .before .before .before .before .before .enum-told .given .1) (record { desk = refl; bad = refl; line = c .before .before .put .ensures; short = omega (arith, c .before .before .put .ensures .next) }, (refl, refl))
+returns-3 c = rw (← c .before .before .before .before .before .before .before .read-record .ensures, c .before .before .before .before .before .enum-told .given .1) (record { desk = refl; queue = refl; out = refl; bad = refl; line = c .before .before .put .ensures; short = omega (arith, c .before .before .put .ensures .next) })
 
 pub reply-at-spec : {M : Type 1} → statement M
 reply-at-spec =
