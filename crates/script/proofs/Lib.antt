@@ -4,3 +4,4 @@ pub mod Puts
 pub mod Playing
 pub mod Longer
 pub mod Claims
+pub mod Example

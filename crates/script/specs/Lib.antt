@@ -6,3 +6,4 @@ pub mod Play
 pub mod Put
 pub mod Promise
 pub mod Claims
+pub mod Example

@@ -33,5 +33,5 @@ abbrev pub atFirst : Held
 atFirst = record { desk = Empty; queue = replicate size 0; out = replicate leastRoom 0 }
 
 -- from bytes to bytes
-pub printed : List ℕ → List ℕ
+abbrev pub printed : List ℕ → List ℕ
 printed s = printedFrom atFirst s
