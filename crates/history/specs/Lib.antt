@@ -1,0 +1,15 @@
+pub mod Run
+pub mod Events
+pub mod Seen
+pub mod Figures
+pub mod Failures
+pub mod Reports
+pub mod Release
+pub mod LifeSigns
+pub mod Sending
+pub mod Delivery
+pub mod Timed
+pub mod Silence
+pub mod Waiting
+pub mod Numbering
+pub mod Wrap

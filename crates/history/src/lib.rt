@@ -1,0 +1,1 @@
+// Definitions and proofs only: what holds of every run of one end.
