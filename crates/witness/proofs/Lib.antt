@@ -1,0 +1,12 @@
+pub mod Sunday
+pub mod LongRuns
+pub mod Answers
+pub mod Counts
+pub mod Delivery
+pub mod Sending
+pub mod Waiting
+pub mod Bounds
+pub mod Wrap
+pub mod Wire
+pub mod Queue
+pub mod Link

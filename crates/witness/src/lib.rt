@@ -1,0 +1,1 @@
+// Definitions and proofs only: runs that really happen.
