@@ -1,0 +1,10 @@
+pub mod Among
+pub mod World
+pub mod Channel
+pub mod Event
+pub mod Told
+pub mod Run
+pub mod EveryRun
+pub mod Order
+pub mod Age
+pub mod Users
