@@ -10,3 +10,15 @@ pub mod Wrap
 pub mod Wire
 pub mod Queue
 pub mod Link
+pub mod PairSame
+pub mod PairLawful
+pub mod PairShown
+pub mod PairJourney
+pub mod PairOrder
+pub mod PairUsers
+pub mod PairAged
+pub mod PairAges
+pub mod PairEdges
+pub mod PairSpread
+pub mod PairAsks
+pub mod Pieces

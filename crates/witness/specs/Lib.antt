@@ -18,3 +18,13 @@ pub mod Wrap
 pub mod Wire
 pub mod Queue
 pub mod Link
+pub mod PairParts
+pub mod PairTable
+pub mod PairJourney
+pub mod PairOrder
+pub mod PairUsers
+pub mod PairAges
+pub mod PairEdges
+pub mod PairSpread
+pub mod PairAsks
+pub mod Pieces

@@ -1,0 +1,19 @@
+-- The long run, computed.
+use mathlib.Core.Path.{refl}
+use Rattle.judge.specs.Difference.{diff}
+use Rattle.queue.specs.Ring.{slotBytes, slotData}
+use Rattle.wire.specs.Message.{parse, encode, headerBytes}
+use Rattle.rules.specs.Rules.{decideOf, onEvent}
+use Rattle.link.specs.Perform.{performed}
+use Rattle.link.specs.Step.{effectOf, stepped}
+use Rattle.pair.specs.Run.{after}
+use Rattle.witness.specs.PairJourney.{start, journey, JourneyHappens, UpTwice}
+use Rattle.witness.proofs.PairShown.{happens}
+
+pub journey-happens : JourneyHappens
+unfolding stepped effectOf performed decideOf onEvent parse encode headerBytes slotBytes slotData diff
+journey-happens = happens start journey ((refl, refl), (refl, refl)) refl refl
+
+pub up-twice : UpTwice
+unfolding after stepped effectOf performed decideOf onEvent parse encode headerBytes slotBytes slotData diff
+up-twice = ((refl, refl), (refl, refl))
