@@ -22,3 +22,4 @@ pub mod PairEdges
 pub mod PairSpread
 pub mod PairAsks
 pub mod Pieces
+pub mod PairTwice

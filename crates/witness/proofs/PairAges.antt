@@ -9,7 +9,7 @@ use Rattle.link.specs.Perform.{performed}
 use Rattle.link.specs.Step.{effectOf, stepped}
 use Rattle.pair.specs.Run.{after}
 use Rattle.pair.proofs.Claims.{nothing-old-delivered}
-use Rattle.witness.specs.PairParts.{stamped}
+use Rattle.witness.specs.Ends.{stamped}
 use Rattle.witness.specs.PairTable.{delivery, movesIn}
 use Rattle.witness.specs.PairJourney.{start, journey, l, r, untilNear, untilWrapped, untilAnswered, untilDelayed, l4, l5, l6, r6}
 use Rattle.witness.specs.PairAges.{AgedOverTheWrap, AgedByWrappedClock, AgedToTheLimit, OneIsLate, OldestOfAll}

@@ -12,7 +12,7 @@ use Rattle.pair.specs.Run.{after}
 use Rattle.pair.specs.Among.{Among}
 use Rattle.pair.specs.World.{Delivery}
 use Rattle.pair.proofs.Claims.{nothing-old-delivered}
-use Rattle.witness.specs.PairParts.{stamped}
+use Rattle.witness.specs.Ends.{stamped}
 use Rattle.witness.specs.PairTable.{delivery, movesIn, reached}
 use Rattle.witness.specs.PairEdges.{sharply, l, r, l3, l4, r2, r3, sharpStart, untilLimit, untilOver, sharpRun, SharpRunHappens, ShortfallsAreExtreme, AgeIsAboveByTheSpread, AgeIsTrue, DeliveredAtTheLimit, LateAtThirtyOne, LateAtFiftyOne}
 use Rattle.witness.proofs.PairSame.{same-deliveries}

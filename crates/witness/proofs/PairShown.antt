@@ -10,8 +10,8 @@ use Rattle.pair.specs.World.{World}
 use Rattle.pair.specs.Event.{resultAt, answerIn}
 use Rattle.pair.specs.Run.{Beginning, Sound, begun, next}
 use Rattle.pair.specs.Run.Move.{wait, atLeft, atRight}
-use Rattle.witness.specs.PairParts.{Output, outputsOf}
-use Rattle.witness.specs.PairParts.Output.{ask, accept, send, give, up, error, release, down}
+use Rattle.witness.specs.Table.{Output, outputsOf}
+use Rattle.witness.specs.Table.Output.{ask, accept, send, give, up, error, release, down}
 use Rattle.witness.specs.PairTable.{Row, ruled, Happens}
 use Rattle.witness.specs.PairTable.Row.{left, right}
 use Rattle.witness.proofs.PairSame.{both, sameBytes, same-bytes}

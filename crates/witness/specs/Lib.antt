@@ -18,7 +18,6 @@ pub mod Wrap
 pub mod Wire
 pub mod Queue
 pub mod Link
-pub mod PairParts
 pub mod PairTable
 pub mod PairJourney
 pub mod PairOrder
@@ -28,3 +27,4 @@ pub mod PairEdges
 pub mod PairSpread
 pub mod PairAsks
 pub mod Pieces
+pub mod PairTwice

@@ -12,7 +12,7 @@ use Rattle.pair.specs.Channel.{MayHandOver}
 use Rattle.pair.specs.Event.{resultAt, answerIn}
 use Rattle.pair.specs.Run.{Lawful}
 use Rattle.pair.specs.Age.{computedAge, measuredSpread, AgeBounded, Timely, LateIndeed}
-use Rattle.witness.specs.PairParts.{stamped}
+use Rattle.witness.specs.Ends.{stamped}
 use Rattle.witness.specs.PairTable.{delivery, comes, reachedLater}
 use Rattle.witness.specs.PairJourney.{start, l, r, untilNear, untilWrapped, untilAnswered, untilDelayed, l4, l5, l6, r6}
 use Rattle.witness.specs.PairOrder.{ended}

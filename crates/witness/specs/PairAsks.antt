@@ -7,8 +7,8 @@ use Rattle.rules.specs.declared.state.Life.the-variants.{Up}
 use Rattle.pair.specs.World.{Letter, World}
 use Rattle.pair.specs.Channel.{MayHandOver}
 use Rattle.pair.specs.Run.{Beginning, Lawful}
-use Rattle.witness.specs.PairParts.{settings, bare, estimate, train}
-use Rattle.witness.specs.PairParts.Output.{ask, accept, send, give, up}
+use Rattle.witness.specs.Ends.{settings, bare, estimate, train}
+use Rattle.witness.specs.Table.Output.{ask, accept, send, give, up}
 use Rattle.witness.specs.PairTable.{made, beginning, letter, of, tick, connect, confirm, disconnect, user, comes, Row, reached, Happens}
 use Rattle.witness.specs.PairTable.Row.{left, right}
 

@@ -8,8 +8,8 @@ use Rattle.pair.specs.World.{Letter}
 use Rattle.pair.specs.Event.{resultAt, answerIn}
 use Rattle.pair.specs.Run.{Beginning}
 use Rattle.pair.specs.Age.{shortfall}
-use Rattle.witness.specs.PairParts.{stamped, bare, estimate, train}
-use Rattle.witness.specs.PairParts.Output.{ask, accept, send, give, up, error}
+use Rattle.witness.specs.Ends.{stamped, bare, estimate, train}
+use Rattle.witness.specs.Table.Output.{ask, accept, send, give, up, error}
 use Rattle.witness.specs.PairTable.{made, beginning, letter, tick, connect, confirm, user, comes, delivery, Row, reached, reachedLater, Happens}
 use Rattle.witness.specs.PairTable.Row.{left, right}
 use Rattle.witness.specs.PairAges.{Aged, ComesLate, DeliveredAt}

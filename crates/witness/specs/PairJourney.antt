@@ -6,8 +6,8 @@ use mathlib.Core.Path.{_≡_}
 use Rattle.rules.specs.declared.state.Life.the-variants.{Up}
 use Rattle.pair.specs.World.{Letter}
 use Rattle.pair.specs.Run.{Beginning}
-use Rattle.witness.specs.PairParts.{settings, bare, estimate, lifeSign, train}
-use Rattle.witness.specs.PairParts.Output.{ask, accept, send, give, up, error, down}
+use Rattle.witness.specs.Ends.{settings, bare, estimate, lifeSign, train}
+use Rattle.witness.specs.Table.Output.{ask, accept, send, give, up, error, down}
 use Rattle.witness.specs.PairTable.{made, beginning, letter, tick, connect, confirm, disconnect, user, comes, Row, reached, Happens}
 use Rattle.witness.specs.PairTable.Row.{left, right}
 

@@ -7,8 +7,8 @@ use Rattle.rules.specs.declared.state.Life.the-variants.{Idle, Up}
 use Rattle.pair.specs.World.{Letter}
 use Rattle.pair.specs.Run.{Beginning}
 use Rattle.pair.specs.Age.{measuredSpread}
-use Rattle.witness.specs.PairParts.{bare, estimate}
-use Rattle.witness.specs.PairParts.Output.{ask, accept, send, up, release}
+use Rattle.witness.specs.Ends.{bare, estimate}
+use Rattle.witness.specs.Table.Output.{ask, accept, send, up, release}
 use Rattle.witness.specs.PairTable.{made, beginning, letter, tick, connect, confirm, comes, Row, reached, Happens}
 use Rattle.witness.specs.PairTable.Row.{left, right}
 use Rattle.witness.specs.PairEdges.{within}

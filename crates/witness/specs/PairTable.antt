@@ -11,7 +11,8 @@ use Rattle.pair.specs.World.{Letter, Datum, Delivery, World}
 use Rattle.pair.specs.Event.{Call, resultAt, answerIn}
 use Rattle.pair.specs.Run.{Making, Beginning, Sound, Move, Run, begun, next, after}
 use Rattle.pair.specs.Run.Move.{wait, atLeft, atRight}
-use Rattle.witness.specs.PairParts.{reading, roomy, Output, outputsOf}
+use Rattle.witness.specs.Ends.{reading, roomy}
+use Rattle.witness.specs.Table.{Output, outputsOf}
 
 -- ---- how a run begins
 
