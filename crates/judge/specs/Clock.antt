@@ -5,6 +5,8 @@ use lib.Dec.{leb, eqb}
 use Rattle.judge.specs.Difference.{diff}
 use Rattle.judge.specs.declared.clock.Reading.{Reading}
 use Rattle.judge.specs.declared.clock.Offset.{Offset}
+use Rattle.judge.specs.declared.clock.Stamps.{Stamps}
+use Rattle.judge.specs.declared.clock.Offsets.{Offsets}
 
 -- ---- one clock
 
@@ -33,15 +35,22 @@ offsetOf own peer = record { 0 = diff 32 (own .0) (peer .0) }
 abbrev pub opposedOf : Offset → Offset → Bool
 opposedOf a b = eqb (a .0) (diff 32 0 (b .0))
 
-abbrev pub spreadOf : Offset → Offset → ℕ
-spreadOf minimum maximum = diff 32 (maximum .0) (minimum .0)
+-- the pair that a message with these stamps gives when it comes now: its minimum is the own reading that it echoes less the peer's
+-- receipt of that, its maximum is now less the sender's reading, and the echoed reading began it
+abbrev pub offsetsBy : Stamps → Reading → Offsets
+offsetsBy s now =
+    record { minimum = offsetOf (s .echo) (s .receipt); maximum = offsetOf now (s .sent); since = s .echo }
 
-abbrev pub narrowOf : Offset → Offset → ℕ → Bool
-narrowOf minimum maximum limit = leb (spreadOf minimum maximum) limit
+-- maximum less minimum
+abbrev pub spreadOf : Offsets → ℕ
+spreadOf pair = diff 32 (pair .maximum .0) (pair .minimum .0)
+
+abbrev pub narrowOf : Offsets → ℕ → Bool
+narrowOf pair limit = leb (spreadOf pair) limit
 
 -- now, less the sender's reading, less the offset minimum
-abbrev pub ageOf : Reading → Reading → Offset → ℕ
-ageOf now sent minimum = diff 32 (diff 32 (now .0) (sent .0)) (minimum .0)
+abbrev pub ageOf : Reading → Reading → Offsets → ℕ
+ageOf now sent pair = diff 32 (diff 32 (now .0) (sent .0)) (pair .minimum .0)
 
-abbrev pub freshOf : Reading → Reading → Offset → ℕ → Bool
-freshOf now sent minimum limit = leb (ageOf now sent minimum) limit
+abbrev pub freshOf : Reading → Reading → Offsets → ℕ → Bool
+freshOf now sent pair limit = leb (ageOf now sent pair) limit

@@ -1,6 +1,6 @@
 // Clock readings, offsets between two clocks, and what is judged from them.
 ghost use mathlib.Core.Path.{_≡_};
-ghost use Rattle.judge.specs.Clock.{sinceOf, backOf, passedOf, sameOf, offsetOf, opposedOf, spreadOf, narrowOf, ageOf, freshOf};
+ghost use Rattle.judge.specs.Clock.{sinceOf, backOf, passedOf, sameOf, offsetOf, opposedOf, offsetsBy, spreadOf, narrowOf, ageOf, freshOf};
 use std::num::wrapping_sub_u32;
 
 // What one clock shows, in ticks. It wraps.
@@ -8,6 +8,23 @@ pub struct Reading(pub u32);
 
 // By how much one clock is ahead of another, in ticks. It wraps, and it is no reading.
 pub struct Offset(pub u32);
+
+// The time stamps of a message, all readings.
+pub struct Stamps {
+    // The sender's when it sent this.
+    pub sent: Reading,
+    // The receiver's own, out of the last message that the sender accepted.
+    pub echo: Reading,
+    // The sender's when it accepted that message.
+    pub receipt: Reading,
+}
+
+// Two bounds of how far the own clock is ahead of the peer's, and the own reading that began them.
+pub struct Offsets {
+    pub minimum: Offset,
+    pub maximum: Offset,
+    pub since: Reading,
+}
 
 // The ticks from `then` to `now`.
 pub fn since(now: Reading, then: Reading) -> u32
@@ -58,33 +75,50 @@ pub fn is_opposed(a: Offset, b: Offset) -> bool
     x == n
 }
 
-// By how much a pair of offsets may be wrong.
-pub fn spread(minimum: Offset, maximum: Offset) -> u32
-    ensures { λ r. ⌜ r ≡ spreadOf minimum maximum ⌝ }
+// The pair of offsets that a message with these stamps gives when it comes at `now`.
+pub fn offsets_by(stamps: Stamps, now: Reading) -> Offsets
+    ensures { λ r. ⌜ r ≡ offsetsBy stamps now ⌝ }
 {
-    wrapping_sub_u32(maximum.0, minimum.0)
+    let echo = stamps.echo;
+    let minimum = offset_of(echo, stamps.receipt);
+    let maximum = offset_of(now, stamps.sent);
+    Offsets {
+        minimum,
+        maximum,
+        since: echo,
+    }
+}
+
+// By how much a pair of offsets may be wrong.
+pub fn spread(pair: Offsets) -> u32
+    ensures { λ r. ⌜ r ≡ spreadOf pair ⌝ }
+{
+    let low = pair.minimum;
+    let high = pair.maximum;
+    wrapping_sub_u32(high.0, low.0)
 }
 
 // Whether the spread of a pair is at most `limit`.
-pub fn is_narrow(minimum: Offset, maximum: Offset, limit: u32) -> bool
-    ensures { λ r. ⌜ r ≡ narrowOf minimum maximum limit ⌝ }
+pub fn is_narrow(pair: Offsets, limit: u32) -> bool
+    ensures { λ r. ⌜ r ≡ narrowOf pair limit ⌝ }
 {
-    let width = spread(minimum, maximum);
+    let width = spread(pair);
     width <= limit
 }
 
 // How old a message may be at the most that left the peer at its reading `sent`.
-pub fn age(now: Reading, sent: Reading, minimum: Offset) -> u32
-    ensures { λ r. ⌜ r ≡ ageOf now sent minimum ⌝ }
+pub fn age(now: Reading, sent: Reading, pair: Offsets) -> u32
+    ensures { λ r. ⌜ r ≡ ageOf now sent pair ⌝ }
 {
+    let least = pair.minimum;
     let apart = wrapping_sub_u32(now.0, sent.0);
-    wrapping_sub_u32(apart, minimum.0)
+    wrapping_sub_u32(apart, least.0)
 }
 
 // Whether that age is at most `limit`.
-pub fn is_fresh(now: Reading, sent: Reading, minimum: Offset, limit: u32) -> bool
-    ensures { λ r. ⌜ r ≡ freshOf now sent minimum limit ⌝ }
+pub fn is_fresh(now: Reading, sent: Reading, pair: Offsets, limit: u32) -> bool
+    ensures { λ r. ⌜ r ≡ freshOf now sent pair limit ⌝ }
 {
-    let ticks = age(now, sent, minimum);
+    let ticks = age(now, sent, pair);
     ticks <= limit
 }

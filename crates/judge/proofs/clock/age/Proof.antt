@@ -16,7 +16,7 @@ wrapping-sub-u32-requires-2 c κs = search needs
 returns : tie.Need-returns
 returns c =
     wraps 32 _ _ _ (search needs) (c .wrapping-sub-u322 .ensures)
-    ∙ ap (λ (n : ℕ). diff 32 n (c .before .before .args .minimum .0)) (wraps 32 _ _ _ (search needs) (c .before .wrapping-sub-u32 .ensures))
+    ∙ ap (λ (n : ℕ). diff 32 n (c .before .before .before .args .pair .minimum .0)) (wraps 32 _ _ _ (search needs) (c .before .wrapping-sub-u32 .ensures))
 
 pub age-spec : {M : Type 1} → statement M
 age-spec = tie.close (tie.spec wrapping-sub-u32-requires wrapping-sub-u32-requires-2 returns)
