@@ -15,16 +15,19 @@ use Rattle.wire.proofs.Digits.{written-reads, read-writes}
 pub field-reads : (n x : ℕ) (s : List ℕ) (i : ℕ) → x < 256 ^ n → take n (drop i s) ≡ bytesOf n x → numberAt n s i ≡ x
 field-reads n x s i fits e = written-reads n x s i e ∙ mod-eq-of-lt fits
 
-pub header-reads : (kind : ℕ) (h : Header) (q : List ℕ) → h .number < 2 ^ 16 → h .sent < 2 ^ 32 → h .echo < 2 ^ 32
-    → h .receipt < 2 ^ 32 → headerIn (headerBytes kind h ++ q) ≡ h
+pub header-reads : (kind : ℕ) (h : Header) (q : List ℕ) → h .number < 2 ^ 16 → h .stamps .sent .0 < 2 ^ 32
+    → h .stamps .echo .0 < 2 ^ 32 → h .stamps .receipt .0 < 2 ^ 32 → headerIn (headerBytes kind h ++ q) ≡ h
 unfolding headerBytes
 header-reads kind h q number sent echo receipt =
     let s = headerBytes kind h ++ q in
     let a : numberAt 2 s 1 ≡ h .number = field-reads 2 (h .number) s 1 number refl in
-    let b : numberAt 4 s 3 ≡ h .sent = field-reads 4 (h .sent) s 3 sent refl in
-    let c : numberAt 4 s 7 ≡ h .echo = field-reads 4 (h .echo) s 7 echo refl in
-    let d : numberAt 4 s 11 ≡ h .receipt = field-reads 4 (h .receipt) s 11 receipt refl in
-    λ i. record { sent = b i; echo = c i; receipt = d i; number = a i }
+    let b : numberAt 4 s 3 ≡ h .stamps .sent .0 = field-reads 4 (h .stamps .sent .0) s 3 sent refl in
+    let c : numberAt 4 s 7 ≡ h .stamps .echo .0 = field-reads 4 (h .stamps .echo .0) s 7 echo refl in
+    let d : numberAt 4 s 11 ≡ h .stamps .receipt .0 = field-reads 4 (h .stamps .receipt .0) s 11 receipt refl in
+    λ i. record {
+      stamps = record { sent = record { 0 = b i }; echo = record { 0 = c i }; receipt = record { 0 = d i } };
+      number = a i;
+    }
 
 -- the first bytes of s, one run after the other
 join : (n m : ℕ) (s : List ℕ) → take n s ++ take m (drop n s) ≡ take (n + m) s

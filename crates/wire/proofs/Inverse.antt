@@ -2,15 +2,14 @@
 use Prim.Native.Nat.{ℕ, _+_, _≤_, _<_}
 use native.Mathlib.Nat.{le-of-eq}
 use native.Mathlib.Omega.{arith}
-use mathlib.Core.Bool.{true, and-eq-true-iff}
+use mathlib.Core.Bool.{true}
 use mathlib.Core.Path.{_≡_, refl, ap, ap₂, sym, subst, _∙_}
 use mathlib.Core.List.{List, [], _∷_, _++_, append-nil}
-use borrow.Author.Tests.{leb-true, le-ltb, le-leb, ne-eqb}
-use lib.Dec.{leb}
+use borrow.Author.Tests.{le-ltb, le-leb, ne-eqb}
 use lib.ListN.{length, getD, take, drop, take-append-drop, drop-of-length-le}
 use lib.Seq.{take-add, take-all, drop-cons, drop-drop}
 use Rattle.wire.specs.Bytes.{bytesOf, numberAt, AreBytes}
-use Rattle.wire.specs.Message.{headerBytes, headerIn, encode, parse, saying, dataIn, longest}
+use Rattle.wire.specs.Message.{headerBytes, headerIn, encode, parse, saying, trainIn, longest}
 use Rattle.wire.specs.Writing.{carries}
 use Rattle.wire.specs.Claims.{Fits, BodyFits, carried}
 use Rattle.wire.specs.declared.message.Header.{Header}
@@ -18,6 +17,7 @@ use Rattle.wire.specs.declared.message.Body.{Body}
 use Rattle.wire.specs.declared.message.Body.the-variants.{OffsetStart, OffsetAnsw1, OffsetAnsw2, OffsetEst, OffsetEnd, LifeSign, TrainData}
 use Rattle.wire.specs.declared.message.Message.{Message}
 use Rattle.wire.specs.declared.message.Parsed.the-variants.{WellFormed}
+use Rattle.wire.proofs.Carrying.{carried-is}
 use Rattle.wire.proofs.Parsing.{ReadsAs, reads-as}
 use Rattle.wire.proofs.Digits.{read-writes, number-lt}
 use Rattle.wire.proofs.Fields.{field-reads, header-reads, header-writes}
@@ -28,7 +28,7 @@ abbrev pub said : Header → Body → Message
 said h b = record { header = h; body = b }
 
 abbrev pub Back : Message → List ℕ → Type 0
-Back m d = (parse (encode m d) ≡ WellFormed m) × (carried (m .body) (dataIn (encode m d)) ≡ carried (m .body) d)
+Back m d = (parse (encode m d) ≡ WellFormed m) × (carried (m .body) (trainIn (encode m d)) ≡ carried (m .body) d)
 
 -- bytes of kind 6 that end within the longest data are train data
 train-data-reads : (s : List ℕ) → 16 < length s → length s ≤ 16 + longest → getD s 0 0 ≡ 6 → getD s 15 0 ≡ 3
@@ -52,20 +52,31 @@ reads-body h OffsetAnsw1 d f ok = (ap (λ (x : Header). WellFormed (said x Offse
 reads-body h OffsetAnsw2 d f ok = (ap (λ (x : Header). WellFormed (said x OffsetAnsw2)) (same-header 3 h OffsetAnsw2 [] f), refl)
 reads-body h (OffsetEst mn mx) d f ok =
     let s = encode (said h (OffsetEst mn mx)) d in
-    let a : numberAt 4 s 15 ≡ mn = field-reads 4 mn s 15 (f .body .0) refl in
-    let b : numberAt 4 s 19 ≡ mx = field-reads 4 mx s 19 (f .body .1) refl in
-    let c : headerIn s ≡ h = same-header 4 h (OffsetEst mn mx) (bytesOf 4 mn ++ bytesOf 4 mx) f in
-    (λ i. WellFormed (said (c i) (OffsetEst (a i) (b i))), refl)
+    let a : numberAt 4 s 15 ≡ mn .0 = field-reads 4 (mn .0) s 15 (f .body .0) refl in
+    let b : numberAt 4 s 19 ≡ mx .0 = field-reads 4 (mx .0) s 19 (f .body .1) refl in
+    let c : headerIn s ≡ h = same-header 4 h (OffsetEst mn mx) (bytesOf 4 (mn .0) ++ bytesOf 4 (mx .0)) f in
+    (λ i. WellFormed (said (c i) (OffsetEst (record { 0 = a i }) (record { 0 = b i }))), refl)
 reads-body h OffsetEnd d f ok = (ap (λ (x : Header). WellFormed (said x OffsetEnd)) (same-header 5 h OffsetEnd [] f), refl)
 reads-body h LifeSign d f ok = (ap (λ (x : Header). WellFormed (said x LifeSign)) (same-header 6 h LifeSign (2 ∷ []) f), refl)
 reads-body h TrainData d f ok =
-    let both = and-eq-true-iff (leb 1 (length d)) (leb (length d) longest) .0 ok in
-    let some : 1 ≤ length d = leb-true 1 (length d) (both .0) in
-    let few : length d ≤ longest = leb-true (length d) longest (both .1) in (
+    let is = carried-is d ok in (
       train-data-reads (encode (said h TrainData) d) (omega arith) (omega arith) refl refl
           ∙ ap (λ (x : Header). WellFormed (said x TrainData)) (same-header 6 h TrainData (3 ∷ d) f),
       refl,
     )
+
+-- whatever its fields, a message that can be carried is written as bytes that read as some message
+pub encode-parses : (h : Header) (b : Body) (d : List ℕ) → carries b d ≡ true → (m : Message) × (parse (encode (said h b) d) ≡ WellFormed m)
+unfolding encode headerBytes parse
+encode-parses h OffsetStart d ok = (_, refl)
+encode-parses h OffsetAnsw1 d ok = (_, refl)
+encode-parses h OffsetAnsw2 d ok = (_, refl)
+encode-parses h (OffsetEst mn mx) d ok = (_, refl)
+encode-parses h OffsetEnd d ok = (_, refl)
+encode-parses h LifeSign d ok = (_, refl)
+encode-parses h TrainData d ok =
+    let fits = carried-is d ok in
+    (_, train-data-reads (encode (said h TrainData) d) (omega arith) (omega arith) refl refl)
 
 -- ---- what is read would be written
 
@@ -103,7 +114,7 @@ module _ (s : List ℕ) (bytes : AreBytes s) (long : 15 ≤ length s) where
       ∙ take-append-drop 15 s
 
 same-body : (s : List ℕ) → AreBytes s → (b : Body) → ReadsAs s b
-    → BodyFits b × (encode (said (headerIn s) b) (dataIn s) ≡ s)
+    → BodyFits b × (encode (said (headerIn s) b) (trainIn s) ≡ s)
 unfolding encode
 same-body s bytes OffsetStart r = (tt, same-bare s bytes (omega arith) 1 (r .0) (r .1))
 same-body s bytes OffsetAnsw1 r = (tt, same-bare s bytes (omega arith) 2 (r .0) (r .1))
@@ -129,9 +140,9 @@ reads-long s OffsetEnd r = omega arith
 reads-long s LifeSign r = omega arith
 reads-long s TrainData r = omega arith
 
-pub undone : (s : List ℕ) (m : Message) → AreBytes s → parse s ≡ WellFormed m → Fits m × (encode m (dataIn s) ≡ s)
+pub undone : (s : List ℕ) (m : Message) → AreBytes s → parse s ≡ WellFormed m → Fits m × (encode m (trainIn s) ≡ s)
 undone s m bytes e =
     let i = reads-as s m e in
     let same = same-body s bytes (m .body) (i .1) in
-    subst (λ (h : Header). Fits (said h (m .body)) × (encode (said h (m .body)) (dataIn s) ≡ s)) (sym (i .0))
+    subst (λ (h : Header). Fits (said h (m .body)) × (encode (said h (m .body)) (trainIn s) ≡ s)) (sym (i .0))
     (read-fits s bytes (reads-long s (m .body) (i .1)) (m .body) (same .0), same .1)

@@ -22,7 +22,7 @@ header-length kind h = refl
 
 -- the stores of a header
 pub header-stored : (kind : ℕ) (h : Header) (s : List ℕ) → 15 ≤ length s
-    → sets (sets (sets (sets (set s 0 kind) 1 (bytesOf 2 (h .number))) 3 (bytesOf 4 (h .sent))) 7 (bytesOf 4 (h .echo))) 11 (bytesOf 4 (h .receipt))
+    → sets (sets (sets (sets (set s 0 kind) 1 (bytesOf 2 (h .number))) 3 (bytesOf 4 (h .stamps .sent .0))) 7 (bytesOf 4 (h .stamps .echo .0))) 11 (bytesOf 4 (h .stamps .receipt .0))
     ≡ over (headerBytes kind h) s
 unfolding headerBytes
 header-stored kind h s fits = stored-over (headerBytes kind h) s fits

@@ -6,7 +6,7 @@ use mathlib.Core.Path.{_≡_}
 use lib.ListN.{length}
 use lib.Seq.{sets}
 use Rattle.wire.specs.Bytes.{bytesOf, numberAt, AreBytes}
-use Rattle.wire.specs.Message.{encode, parse, dataIn}
+use Rattle.wire.specs.Message.{encode, parse, trainIn}
 use Rattle.wire.specs.Writing.{carries}
 use Rattle.wire.specs.declared.message.Body.{Body}
 use Rattle.wire.specs.declared.message.Body.the-variants.{OffsetStart, OffsetAnsw1, OffsetAnsw2, OffsetEst, OffsetEnd, LifeSign, TrainData}
@@ -31,7 +31,7 @@ abbrev pub BodyFits : Body → Type 0
 BodyFits OffsetStart = Unit {0}
 BodyFits OffsetAnsw1 = Unit {0}
 BodyFits OffsetAnsw2 = Unit {0}
-BodyFits (OffsetEst minimum maximum) = (minimum < 2 ^ 32) × (maximum < 2 ^ 32)
+BodyFits (OffsetEst minimum maximum) = (minimum .0 < 2 ^ 32) × (maximum .0 < 2 ^ 32)
 BodyFits OffsetEnd = Unit {0}
 BodyFits LifeSign = Unit {0}
 BodyFits TrainData = Unit {0}
@@ -49,19 +49,19 @@ carried TrainData d = d
 -- the fields have the widths of the line: what the types of the code say of every message
 pub record Fits (m : Message) : Type 0 where
   pub number : m .header .number < 2 ^ 16
-  pub sent : m .header .sent < 2 ^ 32
-  pub echo : m .header .echo < 2 ^ 32
-  pub receipt : m .header .receipt < 2 ^ 32
+  pub sent : m .header .stamps .sent .0 < 2 ^ 32
+  pub echo : m .header .stamps .echo .0 < 2 ^ 32
+  pub receipt : m .header .stamps .receipt .0 < 2 ^ 32
   pub body : BodyFits (m .body)
 
 -- whatever can be written reads back as the same fields, and its train data as the same bytes
 abbrev pub ReadsBack : Type 0
 ReadsBack =
     (m : Message) (d : List ℕ) → Fits m → carries (m .body) d ≡ true
-    → (parse (encode m d) ≡ WellFormed m) × (carried (m .body) (dataIn (encode m d)) ≡ carried (m .body) d)
+    → (parse (encode m d) ≡ WellFormed m) × (carried (m .body) (trainIn (encode m d)) ≡ carried (m .body) d)
 
 -- whatever is read can be written, and would be written with the same bytes
 abbrev pub WritesBack : Type 0
 WritesBack =
     (s : List ℕ) (m : Message) → AreBytes s → parse s ≡ WellFormed m
-    → Fits m × (carries (m .body) (dataIn s) ≡ true) × (encode m (dataIn s) ≡ s)
+    → Fits m × (carries (m .body) (trainIn s) ≡ true) × (encode m (trainIn s) ≡ s)

@@ -1,4 +1,5 @@
 pub mod Bytes
+pub mod Table
 pub mod Message
 pub mod Writing
 pub mod Claims

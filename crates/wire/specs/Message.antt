@@ -4,7 +4,11 @@ use mathlib.Core.Bool.{cond}
 use mathlib.Core.List.{List, [], _∷_, _++_}
 use lib.Dec.{ltb, leb, eqb}
 use lib.ListN.{length, getD, drop}
+use Rattle.judge.specs.declared.clock.Reading.{Reading}
+use Rattle.judge.specs.declared.clock.Offset.{Offset}
+use Rattle.judge.specs.declared.clock.Stamps.{Stamps}
 use Rattle.wire.specs.Bytes.{bytesOf, numberAt}
+use Rattle.wire.specs.Table.{Row, lookup}
 use Rattle.wire.specs.declared.message.Header.{Header}
 use Rattle.wire.specs.declared.message.Body.{Body}
 use Rattle.wire.specs.declared.message.Body.the-variants.{OffsetStart, OffsetAnsw1, OffsetAnsw2, OffsetEst, OffsetEnd, LifeSign, TrainData}
@@ -30,17 +34,21 @@ kindOf OffsetEnd = 5
 kindOf LifeSign = 6
 kindOf TrainData = 6
 
--- kind, number, the sender's reading, the reading that it echoes, and its own when it accepted that one
+-- the sender's reading, the reading that it echoes, and its own when it accepted that one
+abbrev pub stampBytes : Stamps → List ℕ
+stampBytes s = bytesOf 4 (s .sent .0) ++ bytesOf 4 (s .echo .0) ++ bytesOf 4 (s .receipt .0)
+
+-- kind, number and time stamps
 unfoldable pub headerBytes : ℕ → Header → List ℕ
 headerBytes kind h =
-    (kind ∷ bytesOf 2 (h .number)) ++ bytesOf 4 (h .sent) ++ bytesOf 4 (h .echo) ++ bytesOf 4 (h .receipt)
+    (kind ∷ bytesOf 2 (h .number)) ++ stampBytes (h .stamps)
 
 -- what follows the header; d are the train data
 abbrev pub bodyBytes : Body → List ℕ → List ℕ
 bodyBytes OffsetStart d = []
 bodyBytes OffsetAnsw1 d = []
 bodyBytes OffsetAnsw2 d = []
-bodyBytes (OffsetEst minimum maximum) d = bytesOf 4 minimum ++ bytesOf 4 maximum
+bodyBytes (OffsetEst minimum maximum) d = bytesOf 4 (minimum .0) ++ bytesOf 4 (maximum .0)
 bodyBytes OffsetEnd d = []
 bodyBytes LifeSign d = 2 ∷ []
 bodyBytes TrainData d = 3 ∷ d
@@ -50,21 +58,34 @@ encode m d = headerBytes (kindOf (m .body)) (m .header) ++ bodyBytes (m .body) d
 
 -- ---- reading
 
+abbrev pub readingAt : List ℕ → ℕ → Reading
+readingAt s i = record { 0 = numberAt 4 s i }
+
+abbrev pub offsetAt : List ℕ → ℕ → Offset
+offsetAt s i = record { 0 = numberAt 4 s i }
+
+abbrev pub stampsIn : List ℕ → Stamps
+stampsIn s = record { sent = readingAt s 3; echo = readingAt s 7; receipt = readingAt s 11 }
+
 abbrev pub headerIn : List ℕ → Header
-headerIn s =
-    record { sent = numberAt 4 s 3; echo = numberAt 4 s 7; receipt = numberAt 4 s 11; number = numberAt 2 s 1 }
+headerIn s = record { stamps = stampsIn s; number = numberAt 2 s 1 }
 
 -- a message with the header of s
 abbrev pub saying : List ℕ → Body → Parsed
 saying s b = WellFormed (record { header = headerIn s; body = b })
 
--- the kinds from 0 on; every later one is unknown
-abbrev pub shapes : List Shape
-shapes =
-    Unknown ∷ Bare OffsetStart ∷ Bare OffsetAnsw1 ∷ Bare OffsetAnsw2 ∷ Offsets ∷ Bare OffsetEnd ∷ Payload ∷ []
+-- the kinds that there are
+abbrev pub bare : Body → Row Shape
+bare b = record { key = kindOf b; value = Bare b }
 
+abbrev pub shapes : List (Row Shape)
+shapes =
+    bare OffsetStart ∷ bare OffsetAnsw1 ∷ bare OffsetAnsw2 ∷ record { key = 4; value = Offsets } ∷ bare OffsetEnd
+    ∷ record { key = 6; value = Payload } ∷ []
+
+-- every other kind is unknown
 abbrev pub shapeOf : ℕ → Shape
-shapeOf kind = getD shapes kind Unknown
+shapeOf kind = lookup shapes kind Unknown
 
 -- one byte 2 is a life sign, a byte 3 with 1 to `longest` bytes after it is train data
 abbrev pub payloadIn : List ℕ → Parsed
@@ -76,7 +97,7 @@ payloadIn s =
 -- what bytes of a shape say, once there are as many as a header has
 abbrev pub bodyIn : Shape → List ℕ → Parsed
 bodyIn (Bare b) s = cond (eqb (length s) 15) (saying s b) Malformed
-bodyIn Offsets s = cond (eqb (length s) 23) (saying s (OffsetEst (numberAt 4 s 15) (numberAt 4 s 19))) Malformed
+bodyIn Offsets s = cond (eqb (length s) 23) (saying s (OffsetEst (offsetAt s 15) (offsetAt s 19))) Malformed
 bodyIn Payload s = payloadIn s
 bodyIn Unknown s = Malformed
 
@@ -84,5 +105,5 @@ unfoldable pub parse : List ℕ → Parsed
 parse s = cond (ltb (length s) 15) Malformed (bodyIn (shapeOf (getD s 0 0)) s)
 
 -- the train data of a message that carries some
-abbrev pub dataIn : List ℕ → List ℕ
-dataIn s = drop 16 s
+abbrev pub trainIn : List ℕ → List ℕ
+trainIn s = drop 16 s

@@ -1,4 +1,6 @@
 // A message as its fields. Train data are no field: they stay in the bytes that they stand in.
+use judge::clock::Offset;
+use judge::clock::Stamps;
 
 // The longest train data of one message.
 pub const LONGEST: usize = 100;
@@ -6,14 +8,9 @@ pub const LONGEST: usize = 100;
 // The bytes before a body: kind, number and the three time stamps.
 pub const HEADER: usize = 15;
 
-// The time stamps and the number that every message carries.
+// What every message carries.
 pub struct Header {
-    // The sender's reading when it sent this.
-    pub sent: u32,
-    // The peer's reading out of the last message that the sender accepted.
-    pub echo: u32,
-    // The sender's reading when it accepted that message.
-    pub receipt: u32,
+    pub stamps: Stamps,
     // The sequence number.
     pub number: u16,
 }
@@ -23,7 +20,7 @@ pub enum Body {
     OffsetStart,
     OffsetAnsw1,
     OffsetAnsw2,
-    OffsetEst { minimum: u32, maximum: u32 },
+    OffsetEst { minimum: Offset, maximum: Offset },
     OffsetEnd,
     LifeSign,
     TrainData,

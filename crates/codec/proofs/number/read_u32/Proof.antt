@@ -1,0 +1,56 @@
+-- `codec::number::read_u32` meets its contract.
+use mathlib.Core.Path.{_∙_}
+use Rattle.codec.proofs.Places.{four-read}
+use denote.Ref.{now}
+use borrow.Author.Needs.{needs}
+use Rattle.codec.proofs.number.read_u32.Statement.{statement}
+use Rattle.codec.proofs.number.read_u32.Tie as tie
+
+byte-past-requires : tie.Need-byte-past-requires
+byte-past-requires c κs = search needs
+
+byte-past-requires-2 : tie.Need-byte-past-requires-2
+byte-past-requires-2 c κs = search needs
+
+byte-past-requires-3 : tie.Need-byte-past-requires-3
+byte-past-requires-3 c κs = search needs
+
+byte-past-requires-4 : tie.Need-byte-past-requires-4
+byte-past-requires-4 c κs = search needs
+
+mul-result : tie.Need-mul-result
+mul-result c = search needs
+
+mul-result-2 : tie.Need-mul-result-2
+mul-result-2 c = search needs
+
+add-result : tie.Need-add-result
+add-result c = search needs
+
+mul-result-3 : tie.Need-mul-result-3
+mul-result-3 c = search needs
+
+add-result-2 : tie.Need-add-result-2
+add-result-2 c = search needs
+
+add-result-3 : tie.Need-add-result-3
+add-result-3 c = search needs
+
+returns : tie.Need-returns
+returns c = let a = c .before .before .before .before .before .args in (cc) ∙ four-read (now (a .s)) (a .at)
+
+pub read-u32-spec : {M : Type 1} → statement M
+read-u32-spec =
+    tie.close
+    (tie.spec
+    byte-past-requires
+    byte-past-requires-2
+    byte-past-requires-3
+    byte-past-requires-4
+    mul-result
+    mul-result-2
+    add-result
+    mul-result-3
+    add-result-2
+    add-result-3
+    returns)
