@@ -2,45 +2,40 @@
 use Prim.Native.Nat.{ℕ, zero, suc, _+_, _-_, _*_, _%_, _<_}
 use native.Mathlib.Nat.{add-zero}
 use native.Mathlib.Omega.{arith}
-use mathlib.Core.Bool.{Bool, true, false, _&&_, and-eq-true-iff}
+use mathlib.Core.Bool.{false, and-eq-true-iff}
+use mathlib.Mathlib.Data.Bool.Basic.{eq-false-of-not-eq-true}
 use mathlib.Core.Path.{_≡_, refl, ap, ap₂, sym, _∙_}
 use mathlib.Core.List.{List, [], _∷_, _++_}
-use borrow.Author.Tests.{le-leb, lt-ltb, leb-true, ltb-true, eq-eqb, ne-eqb}
-use lib.Dec.{ltb, leb}
+use borrow.Author.Tests.{lt-ltb, ltb-true, eq-eqb, ne-eqb}
+use lib.Dec.{ltb}
 use lib.ListN.{length, getD}
 use lib.Seq.{sets}
-use Rattle.wire.specs.Message.{longest}
-use Rattle.queue.specs.Ring.{places, slotSize, slotStart, slotFrom, slotData, slotBytes, dataAt, dataFrom, waitingIn, takenFrom, takes, putRing, putBytes}
-use Rattle.queue.specs.Ring.{Sendable}
+use Rattle.wire.specs.Writing.{carries}
+use Rattle.wire.specs.declared.message.Body.the-variants.{TrainData}
+use Rattle.wire.proofs.Carrying.{carried-is, is-carried}
+use Rattle.queue.specs.Ring.{places, slotSize, slotStart, slotFrom, slotData, slotBytes, dataAt, dataFrom, waitingIn, withoutOldest, hasPlace, putRing, putBytes, Sendable}
 use Rattle.queue.specs.declared.Ring.{Ring}
 
--- ---- what put and taken do, by the facts that their tests tell
-
-not-taken : (b : Bool) → (b ≡ true → ⊥) → b ≡ false
-not-taken true h = absurd (h refl)
-not-taken false h = refl
+-- ---- what is put and what is taken out, by the facts that the tests tell
 
 module _ (q : List ℕ) (r : Ring) (d : List ℕ) where
   pub accepted : waitingIn r < places → Sendable d
       → (record { head = r .head; count = waitingIn r + 1 } ≡ putRing r d)
       × (sets q (slotStart (r .head + waitingIn r)) (slotBytes d) ≡ putBytes q r d)
-  accepted free ok =
-      rw (lt-ltb (waitingIn r) places free, le-leb 1 (length d) (ok .0), le-leb (length d) longest (ok .1)) (refl, refl)
+  accepted free ok = rw (lt-ltb (waitingIn r) places free, is-carried d (ok .0) (ok .1)) (refl, refl)
 
   pub refused : (waitingIn r < places → Sendable d → ⊥) → (r ≡ putRing r d) × (q ≡ putBytes q r d)
   refused h =
-      let e : takes r d ≡ false =
-      not-taken (takes r d)
-      (λ t.
-      let a = and-eq-true-iff (ltb (waitingIn r) places) (leb 1 (length d) && leb (length d) longest) .0 t in
-      let b = and-eq-true-iff (leb 1 (length d)) (leb (length d) longest) .0 (a .1) in
-      h (ltb-true (waitingIn r) places (a .0)) (leb-true 1 (length d) (b .0), leb-true (length d) longest (b .1))) in
+      let e : hasPlace r d ≡ false =
+      eq-false-of-not-eq-true (λ t.
+      let both = and-eq-true-iff (ltb (waitingIn r) places) (carries TrainData d) .0 t in
+      h (ltb-true (waitingIn r) places (both .0)) (carried-is d (both .1))) in
       rw e (refl, refl)
 
-pub taken-none : (r : Ring) → waitingIn r ≡ 0 → r ≡ takenFrom r
+pub taken-none : (r : Ring) → waitingIn r ≡ 0 → r ≡ withoutOldest r
 taken-none r e = rw (eq-eqb (waitingIn r) 0 e)
 
-pub taken-some : (r : Ring) → 0 < waitingIn r → record { head = (r .head + 1) % places; count = waitingIn r - 1 } ≡ takenFrom r
+pub taken-some : (r : Ring) → 0 < waitingIn r → record { head = (r .head + 1) % places; count = waitingIn r - 1 } ≡ withoutOldest r
 taken-some r some = rw (ne-eqb (waitingIn r) 0 (λ (e : waitingIn r ≡ 0). omega arith))
 
 -- ---- a run of places

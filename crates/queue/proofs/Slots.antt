@@ -12,8 +12,7 @@ use Rattle.wire.specs.Message.{longest}
 use Rattle.wire.specs.Writing.{over}
 use Rattle.wire.proofs.Fields.{field-reads}
 use Rattle.wire.proofs.Over.{tail-lent, tail-back}
-use Rattle.queue.specs.Ring.{places, slotSize, size, slotStart, slotFrom, slotBytes, dataLength, slotData, dataAt}
-use Rattle.queue.specs.Ring.{Sendable}
+use Rattle.queue.specs.Ring.{places, slotSize, size, slotStart, slotFrom, slotBytes, dataLength, slotData, dataAt, Sendable}
 
 -- b over the part of s from n on, handed back, is b stored from n on
 pub part-stored : (b s ys : List ℕ) (n : ℕ) → n + length b ≤ length s → ys ≡ over b (take (length s - n) (drop n s))

@@ -4,7 +4,7 @@ use mathlib.Core.List.{List, [], _∷_, _++_}
 use mathlib.Core.Path.{_≡_}
 use lib.ListN.{length, getD}
 use Rattle.wire.specs.Message.{longest}
-use Rattle.queue.specs.Ring.{places, size, emptyRing, waitingIn, entries, oldestIn, takenFrom, putRing, putBytes, Sendable}
+use Rattle.queue.specs.Ring.{places, size, emptyRing, waitingIn, entries, oldestIn, withoutOldest, putRing, putBytes, Sendable}
 use Rattle.queue.specs.declared.Ring.{Ring}
 
 -- ---- the view: a list, the oldest first
@@ -29,10 +29,10 @@ PutKeepsLength = (q : List ℕ) (r : Ring) (d : List ℕ) → length (putBytes q
 
 -- what is handed out is the first, and all others still wait
 abbrev pub TakesFirst : Type 0
-TakesFirst = (q : List ℕ) (r : Ring) → 0 < r .count → entries q r ≡ oldestIn q r ∷ entries q (takenFrom r)
+TakesFirst = (q : List ℕ) (r : Ring) → 0 < r .count → entries q r ≡ oldestIn q r ∷ entries q (withoutOldest r)
 
 abbrev pub TakesNone : Type 0
-TakesNone = (r : Ring) → r .count ≡ 0 → takenFrom r ≡ r
+TakesNone = (r : Ring) → r .count ≡ 0 → withoutOldest r ≡ r
 
 -- ---- every queue of any bytes
 

@@ -71,17 +71,17 @@ abbrev pub oldestIn : List ℕ → Ring → List ℕ
 oldestIn q r = dataAt q (r .head)
 
 -- without the oldest; a ring with none waiting stays as it is
-abbrev pub takenFrom : Ring → Ring
-takenFrom r = cond (eqb (waitingIn r) 0) r (record { head = (r .head + 1) % places; count = waitingIn r - 1 })
+abbrev pub withoutOldest : Ring → Ring
+withoutOldest r = cond (eqb (waitingIn r) 0) r (record { head = (r .head + 1) % places; count = waitingIn r - 1 })
 
 -- ---- one more
 
 -- data have 1 to `longest` bytes, and one more finds a place
-abbrev pub takes : Ring → List ℕ → Bool
-takes r d = ltb (waitingIn r) places && (leb 1 (length d) && leb (length d) longest)
+abbrev pub hasPlace : Ring → List ℕ → Bool
+hasPlace r d = ltb (waitingIn r) places && (leb 1 (length d) && leb (length d) longest)
 
 abbrev pub putRing : Ring → List ℕ → Ring
-putRing r d = cond (takes r d) (record { head = r .head; count = waitingIn r + 1 }) r
+putRing r d = cond (hasPlace r d) (record { head = r .head; count = waitingIn r + 1 }) r
 
 abbrev pub putBytes : List ℕ → Ring → List ℕ → List ℕ
-putBytes q r d = cond (takes r d) (sets q (slotStart (r .head + waitingIn r)) (slotBytes d)) q
+putBytes q r d = cond (hasPlace r d) (sets q (slotStart (r .head + waitingIn r)) (slotBytes d)) q

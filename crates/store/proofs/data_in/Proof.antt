@@ -1,13 +1,13 @@
--- `queue::data_in` meets its contract.
+-- `store::data_in` meets its contract.
 use mathlib.Core.Path.{_≡_, ap, _∙_}
 use denote.Ref.{now}
 use lib.ListN.{take, drop}
 use native.Mathlib.Omega.{arith}
 use Prim.Native.Nat.{ℕ, _+_, _-_}
 use borrow.Author.Needs.{needs}
 use Rattle.queue.specs.Ring.{slotData, slotSize}
-use Rattle.queue.proofs.data_in.Statement.{statement}
-use Rattle.queue.proofs.data_in.Tie as tie
+use Rattle.store.proofs.data_in.Statement.{statement}
+use Rattle.store.proofs.data_in.Tie as tie
 
 add-end : tie.Need-add-end
 add-end c = search needs

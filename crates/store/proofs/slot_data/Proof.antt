@@ -1,13 +1,13 @@
--- `queue::slot_data` meets its contract.
+-- `store::slot_data` meets its contract.
 use mathlib.Core.Path.{_≡_, ap}
 use denote.Ref.{now}
 use lib.ListN.{take, drop}
 use native.Mathlib.Omega.{arith}
 use Prim.Native.Nat.{ℕ, _+_, _-_}
 use borrow.Author.Needs.{needs}
 use Rattle.queue.specs.Ring.{slotData, dataLength}
-use Rattle.queue.proofs.slot_data.Statement.{statement}
-use Rattle.queue.proofs.slot_data.Tie as tie
+use Rattle.store.proofs.slot_data.Statement.{statement}
+use Rattle.store.proofs.slot_data.Tie as tie
 
 data-length-requires : tie.Need-data-length-requires
 data-length-requires c κs = search needs

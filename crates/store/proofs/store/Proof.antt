@@ -1,10 +1,10 @@
--- `queue::store` meets its contract.
+-- `store::store` meets its contract.
 use denote.Ref.{now}
 use borrow.Author.Needs.{needs}
 use Rattle.queue.specs.Ring.{slotBytes}
 use Rattle.queue.proofs.Slots.{part-stored}
-use Rattle.queue.proofs.store.Statement.{statement}
-use Rattle.queue.proofs.store.Tie as tie
+use Rattle.store.proofs.store.Statement.{statement}
+use Rattle.store.proofs.store.Tie as tie
 
 sub-fill : tie.Need-sub-fill
 sub-fill c = search needs

@@ -1,4 +1,4 @@
--- `queue::fill` meets its contract.
+-- `store::fill` meets its contract.
 use Prim.Native.Nat.{ℕ, _-_}
 use lib.Seq.{take-length}
 use lib.ListN.{length, take, drop}
@@ -6,11 +6,11 @@ use mathlib.Core.List.{List, _++_}
 use mathlib.Core.Path.{refl, ap, _∙_}
 use denote.Ref.{now}
 use borrow.Author.Needs.{needs}
 use Rattle.queue.specs.Ring.{slotBytes}
 use Rattle.wire.proofs.Over.{stored-over, part-over}
 use Rattle.wire.specs.Bytes.{bytesOf}
-use Rattle.queue.proofs.fill.Statement.{statement}
-use Rattle.queue.proofs.fill.Tie as tie
+use Rattle.store.proofs.fill.Statement.{statement}
+use Rattle.store.proofs.fill.Tie as tie
 
 cast-n : tie.Need-cast-n
 cast-n c = search needs

@@ -1,13 +1,13 @@
--- `queue::oldest` meets its contract.
+-- `store::oldest` meets its contract.
 use native.Mathlib.Nat.{add-zero}
 use denote.Ref.{now}
 use mathlib.Core.Path.{_≡_, ap, sym, subst, _∙_}
 use Prim.Native.Nat.{ℕ}
 use borrow.Author.Needs.{needs}
 use Rattle.queue.specs.Ring.{slotData, slotFrom, slotStart, oldestIn, Sendable}
 use Rattle.queue.proofs.Claims.{oldest-sendable}
-use Rattle.queue.proofs.oldest.Statement.{statement}
-use Rattle.queue.proofs.oldest.Tie as tie
+use Rattle.store.proofs.oldest.Statement.{statement}
+use Rattle.store.proofs.oldest.Tie as tie
 
 slot-start-requires : tie.Need-slot-start-requires
 slot-start-requires c κs = search needs

@@ -1,14 +1,14 @@
--- `queue::put` meets its contract.
+-- `store::put` meets its contract.
 use lib.Seq.{sets}
 use Prim.Native.Nat.{ℕ, _+_}
 use mathlib.Core.Path.{ap, _∙_}
 use denote.Ref.{now}
 use native.Mathlib.Omega.{arith}
 use borrow.Author.Needs.{needs}
 use Rattle.queue.specs.Ring.{slotStart, slotBytes}
 use Rattle.queue.proofs.Order.{refused, accepted}
-use Rattle.queue.proofs.put.Statement.{statement}
-use Rattle.queue.proofs.put.Tie as tie
+use Rattle.store.proofs.put.Statement.{statement}
+use Rattle.store.proofs.put.Tie as tie
 
 waiting-requires : tie.Need-waiting-requires
 waiting-requires c κs = search needs

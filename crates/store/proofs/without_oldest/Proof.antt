@@ -1,12 +1,12 @@
--- `queue::taken` meets its contract.
+-- `store::without_oldest` meets its contract.
 use Prim.Native.Nat.{_+_, _-_, _%_}
 use mathlib.Core.Path.{_≡_, _∙_}
 use native.Mathlib.Omega.{arith}
 use borrow.Author.Needs.{needs}
 use Rattle.queue.specs.Ring.{places, waitingIn}
 use Rattle.queue.proofs.Order.{taken-none, taken-some}
-use Rattle.queue.proofs.taken.Statement.{statement}
-use Rattle.queue.proofs.taken.Tie as tie
+use Rattle.store.proofs.without_oldest.Statement.{statement}
+use Rattle.store.proofs.without_oldest.Tie as tie
 
 waiting-requires : tie.Need-waiting-requires
 waiting-requires c κs = search needs
@@ -26,5 +26,5 @@ returns-2 c = let r = c .before .before .before .args .r in
     let n : c .before .before .waiting .result - 1 ≡ waitingIn r - 1 = omega arith in
     (λ i. record { head = h i; count = n i }) ∙ taken-some r (omega arith)
 
-pub taken-spec : {M : Type 1} → statement M
-taken-spec = tie.close (tie.spec waiting-requires returns add-next sub-left returns-2)
+pub without-oldest-spec : {M : Type 1} → statement M
+without-oldest-spec = tie.close (tie.spec waiting-requires returns add-next sub-left returns-2)
