@@ -1,6 +1,7 @@
 // What can happen to an end, and what an end does about it: one act for each rule.
 use crate::answer::Answer;
-use judge::clock::Offset;
+use judge::clock::Offsets;
+use wire::message::Body;
 use wire::message::Header;
 
 // What can happen. The bytes of user data and of messages stand beside it.
@@ -18,14 +19,14 @@ pub enum Act {
     Stay(Answer),
     // The new reading is kept, and nothing else changes.
     Note(Answer),
-    Move(Connection),
+    Move(ConnectionMove),
     Start(Exchange),
     Hear(Verdict),
     Say(Speech),
 }
 
-// The life of a connection.
-pub enum Connection {
+// How a connection begins and ends.
+pub enum ConnectionMove {
     Ask,
     Accept,
     // Down without a release, since the peer is gone already.
@@ -34,43 +35,49 @@ pub enum Connection {
     Fall { answer: Answer, error: bool },
 }
 
-// The five messages of the clock start.
+// A message of the start that has come, and the body of the one that goes back.
+pub struct Swap {
+    pub came: Header,
+    pub goes: Body,
+}
+
+// The same, with the offsets that are worked out from what came.
+pub struct Measurement {
+    pub swap: Swap,
+    pub offsets: Offsets,
+}
+
+// The messages of the clock start.
 pub enum Exchange {
-    // Send kind 1.
-    Begin,
-    // Kind 1 has come: send kind 2.
-    Greet(Header),
-    // Kind 2 has come, and the offsets are measured: send kind 3.
-    Measure {
-        header: Header,
-        minimum: Offset,
-        maximum: Offset,
-    },
-    // Kind 3 has come, and the offsets are measured: send kind 4.
-    Estimate {
-        header: Header,
-        minimum: Offset,
-        maximum: Offset,
-    },
-    // Kind 4 has come: send kind 5, and be up.
-    Finish(Header),
-    // Kind 5 has come: be up.
+    // Confirmed: the first message goes out.
+    Begin(Body),
+    // The initiator's first has come.
+    Greet(Swap),
+    // The first answer has come, and the offsets are measured.
+    Measure(Measurement),
+    // The second answer has come, and the offsets are measured.
+    Estimate(Measurement),
+    // The estimate has come: the last message goes out, and the end is up.
+    Finish(Swap),
+    // The last has come: the end is up.
     Rise(Header),
+}
+
+// A message that is delivered: train data to the user, a life sign to nobody.
+pub struct Delivery {
+    pub header: Header,
+    pub age: u32,
+    // How many messages are missing before it.
+    pub skipped: u16,
+    pub train: bool,
 }
 
 // What is made of a message while Up.
 pub enum Verdict {
-    // Delivered: train data to the user, a life sign to nobody; after a gap with an error report.
-    Deliver {
-        header: Header,
-        train: bool,
-        gap: bool,
-    },
+    // After a gap with an error report.
+    Deliver(Delivery),
     // Refused with an error report, as so many in a row now.
-    Report {
-        answer: Answer,
-        failures: u8,
-    },
+    Report { answer: Answer, failures: u8 },
 }
 
 // What is said while Up.

@@ -1,6 +1,4 @@
 // What an end answers.
-ghost use mathlib.Core.Path.{_≡_};
-ghost use Rattle.rules.specs.Answers.{numberOf};
 
 pub enum Answer {
     // The event was handled.
@@ -33,27 +31,4 @@ pub enum Answer {
     Gap,
     // The lent output is too short.
     NoRoom,
-}
-
-// The number that the rules give an answer.
-pub fn number(a: Answer) -> u8
-    ensures { λ r. ⌜ r ≡ numberOf a ⌝ }
-{
-    match a {
-        Answer::Handled => 0,
-        Answer::OutOfRange => 1,
-        Answer::ClockBack => 2,
-        Answer::NoRule => 3,
-        Answer::BadLength => 4,
-        Answer::QueueFull => 5,
-        Answer::Malformed => 6,
-        Answer::NotAwaited => 7,
-        Answer::StartFailed => 8,
-        Answer::Old => 9,
-        Answer::Lost => 10,
-        Answer::Late => 11,
-        Answer::Silent => 12,
-        Answer::Gap => 13,
-        Answer::NoRoom => 14,
-    }
 }

@@ -1,13 +1,9 @@
-// The rules of one end: its settings, its state, and what an event comes to.
+// The law of one end: its settings, its state, what can happen to it and what it does about that.
 //
-// `decide::decide` only tests: from an end, an event, a reading and the bytes that came with it to an
-// `Act`, one for each rule. The order of the tests is the order of the answers. Nothing here changes
-// anything.
+// Here are the types alone. The definitions in specs/ say what every event comes to (`Step.stepped`) and how
+// an end begins (`Make.madeOf`); the crates `decide`, `perform` and `link` do it.
 pub mod act;
 pub mod answer;
-pub mod decide;
-mod hearing;
+pub mod effect;
 pub mod settings;
-mod speaking;
-mod starting;
 pub mod state;
