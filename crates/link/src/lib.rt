@@ -4,14 +4,10 @@
 // in, and the next end comes out with the answer, the reports and what was put at the front of the
 // lent output. Both take anything, and nothing is kept between calls.
 //
-// A step goes in three: `rules` decides by tests alone, `perform` works out what follows without
-// tests, and `place` alone touches bytes.
-mod connecting;
-pub mod effect;
-mod line;
+// A step goes in three: the crate `decide` decides by tests alone, the crate `perform` works out what
+// follows without tests, and `place` alone touches bytes.
+pub mod answer;
 pub mod make;
-mod perform;
 mod place;
-mod starting;
+mod settings;
 pub mod step;
-mod talking;

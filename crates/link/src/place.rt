@@ -3,18 +3,18 @@ ghost use mathlib.Core.Path.{_≡_};
 ghost use mathlib.Core.Bool.{true};
 ghost use Prim.Native.Nat.{_≤_};
 ghost use lib.ListN.{length};
-ghost use Rattle.wire.specs.Message.{encode, dataIn};
+ghost use Rattle.wire.specs.Message.{encode, trainIn};
 ghost use Rattle.wire.specs.Writing.{over, carries};
-ghost use Rattle.rules.specs.Rules.{leastRoom};
-ghost use Rattle.link.specs.Place.{outAfter, queueAfter, frontAfter, Ready};
-use crate::effect::Front;
-use crate::effect::Placing;
+ghost use Rattle.rules.specs.Decide.{leastRoom};
+ghost use Rattle.rules.specs.Place.{outAfter, queueAfter, frontAfter, Ready};
+use codec::reading::train_data;
+use codec::writing::write_message;
 use queue::BYTES;
-use queue::oldest;
-use queue::put;
+use rules::effect::Front;
+use rules::effect::Placing;
+use store::oldest;
+use store::put;
 use wire::message::Message;
-use wire::reading::train_data;
-use wire::writing::write_message;
 
 // Puts what an event gives out at the front of the output, and data that must wait into the queue.
 pub fn place(p: Placing, given: &[u8], out: &mut [u8], q: &mut [u8; BYTES]) -> Front
@@ -46,9 +46,9 @@ fn send(out: &mut [u8], m: Message, train: &[u8]) -> Front
 }
 
 fn deliver(out: &mut [u8], given: &[u8]) -> Front
-    requires { ⌜ length (dataIn (now given)) ≤ length (now out) ⌝ }
-    ensures { λ r. ⌜ r ≡ Front.Datum (length (dataIn (now (given .entry)))) ⌝ }
-    ensures { λ _. ⌜ now (out .exit) ≡ over (dataIn (now (given .entry))) (now (out .entry)) ⌝ }
+    requires { ⌜ length (trainIn (now given)) ≤ length (now out) ⌝ }
+    ensures { λ r. ⌜ r ≡ Front.Datum (length (trainIn (now (given .entry)))) ⌝ }
+    ensures { λ _. ⌜ now (out .exit) ≡ over (trainIn (now (given .entry))) (now (out .entry)) ⌝ }
 {
     let train = train_data(given);
     let n = bytes::copy(train, out);

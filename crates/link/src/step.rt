@@ -1,13 +1,12 @@
 // One event.
-ghost use mathlib.Core.Path.{_≡_};
-ghost use Rattle.link.specs.Step.{stepped};
-use crate::effect::Outcome;
-use crate::perform::perform;
+ghost use Rattle.rules.specs.Claims.{StepPromise};
 use crate::place::place;
+use decide::decide::decide;
 use judge::clock::Reading;
+use perform::perform::perform;
 use queue::BYTES;
 use rules::act::Event;
-use rules::decide::decide;
+use rules::effect::Outcome;
 use rules::state::End;
 
 // Takes one event, at a reading of the own clock. `given` are the bytes of user data or of a message,
@@ -21,8 +20,7 @@ pub fn step(
     out: &mut [u8],
     q: &mut [u8; BYTES],
 ) -> Outcome
-    ensures { λ r. ⌜ record { outcome = r; out = now (out .exit); queue = now (q .exit) }
-        ≡ stepped e event at (now (given .entry)) (now (out .entry)) (now (q .entry)) ⌝ }
+    ensures { λ r. ⌜ StepPromise e event at (now (given .entry)) (now (out .entry)) (now (q .entry)) (record { outcome = r; out = now (out .exit); queue = now (q .exit) }) ⌝ }
 {
     let room = out.len();
     let effect = perform(e, decide(e, event, at, given, room), at);

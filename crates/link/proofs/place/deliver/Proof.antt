@@ -6,7 +6,7 @@ use mathlib.Core.List.{List, _++_}
 use Prim.Native.Nat.{ℕ}
 use denote.Ref.{now}
 use borrow.Author.Needs.{needs}
-use Rattle.link.specs.declared.effect.Front.the-variants.{Datum}
+use Rattle.rules.specs.declared.effect.Front.the-variants.{Datum}
 use Rattle.wire.specs.Writing.{over}
 use Rattle.link.proofs.place.deliver.Statement.{statement}
 use Rattle.link.proofs.place.deliver.Tie as tie

@@ -6,10 +6,10 @@ use Prim.Native.Nat.{ℕ}
 use native.Mathlib.Omega.{arith}
 use mathlib.Core.Path.{refl, ap, _∙_}
 use borrow.Author.Needs.{needs}
-use Rattle.link.specs.declared.effect.Front.the-variants.{Message}
+use Rattle.rules.specs.declared.effect.Front.the-variants.{Message}
 use Rattle.wire.specs.Writing.{over}
 use Rattle.wire.specs.Message.{encode}
-use Rattle.link.proofs.Fits.{data-carried}
+use Rattle.wire.proofs.Carrying.{is-carried}
 use Rattle.link.proofs.place.place.Statement.{statement}
 use Rattle.link.proofs.place.place.Tie as tie
 
@@ -40,7 +40,7 @@ oldest-requires c κs = search needs
 send-requires-3 : tie.Need-send-requires-3
 send-requires-3 c κs =
     let r = rw (c .before .before .before .before .p3 .given .1) at (c .before .before .before .before .before .before .before .before .pre) in
-    (rw (r .0) (data-carried (now (c .oldest .result)) (c .oldest .ensures .1 .0) (c .oldest .ensures .1 .1)), r .1)
+    (rw (r .0) (is-carried (now (c .oldest .result)) (c .oldest .ensures .1 .0) (c .oldest .ensures .1 .1)), r .1)
 
 enum-told-2 : tie.Need-enum-told-2
 enum-told-2 c = search needs

@@ -3,8 +3,8 @@ use mathlib.Core.Path.{ap, _∙_}
 use Prim.Native.Nat.{ℕ}
 use denote.Ref.{now}
 use borrow.Author.Needs.{needs}
-use Rattle.link.proofs.Fits.{written-whole}
-use Rattle.link.specs.declared.effect.Front.the-variants.{Message}
+use Rattle.rules.proofs.Fits.{written-whole}
+use Rattle.rules.specs.declared.effect.Front.the-variants.{Message}
 use Rattle.link.proofs.place.send.Statement.{statement}
 use Rattle.link.proofs.place.send.Tie as tie
 

@@ -3,11 +3,11 @@ use lib.ListN.{length}
 use denote.Ref.{now}
 use mathlib.Core.Path.{ap, sym, subst, _∙_}
 use borrow.Author.Needs.{needs}
-use Rattle.link.proofs.Readiness.{effect-ready}
-use Rattle.link.specs.declared.effect.Effect.{Effect}
-use Rattle.link.specs.Step.{effectOf, stepped, resultOf}
-use Rattle.link.specs.Place.{Ready}
-use Rattle.link.specs.Perform.{performed}
+use Rattle.rules.proofs.Readiness.{effect-ready}
+use Rattle.rules.specs.declared.effect.Effect.{Effect}
+use Rattle.rules.specs.Step.{effectOf, stepped, resultOf}
+use Rattle.rules.specs.Place.{Ready}
+use Rattle.rules.specs.Perform.{performed}
 use Rattle.rules.specs.declared.act.Act.{Act}
 use Rattle.link.proofs.step.step.Statement.{statement}
 use Rattle.link.proofs.step.step.Tie as tie

@@ -1,4 +1,0 @@
--- Proofs that belong to no one function.
-pub mod Fits
-pub mod Readiness
-pub mod Claims
