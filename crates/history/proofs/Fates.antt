@@ -1,29 +1,29 @@
--- What one event can do to the times that an end holds: nine fates, and each act has one of them.
+-- What one event can do to the times that an end holds: seven fates, and each act has one of them.
 use Prim.Native.Nat.{ℕ}
-use native.Mathlib.Omega.{arith}
 use mathlib.Core.Bool.{Bool, true, false, cond, _&&_, _||_}
-use mathlib.Core.List.{List}
 use mathlib.Core.Logic.{_⊎_, inl, inr, ⊎-elim}
-use mathlib.Core.Path.{_≡_, refl, sym, ap, ap₂, subst, _∙_}
-use borrow.Author.Tests.{ltb-true, ne-eqb, lt-leb}
+use mathlib.Core.Path.{_≡_, refl, sym, ap, _∙_}
+use borrow.Author.Tests.{ltb-true, lt-leb}
 use lib.Dec.{leb, eqb}
 use lib.ListN.{length}
-use Rattle.judge.specs.Clock.{backOf, passedOf}
+use Rattle.judge.specs.Clock.{backOf}
 use Rattle.judge.specs.declared.clock.Reading.{Reading}
-use Rattle.rules.proofs.Decided.{decided, apart}
-use Rattle.rules.proofs.Grounds.{Decided, Taken, MoveGrounds, ExchangeGrounds, VerdictGrounds, SpeechGrounds, notes}
-use Rattle.rules.proofs.Grounds.Decided.{no-room, went-back, taken}
 use Rattle.rules.specs.Answers.{numberOf}
-use Rattle.rules.specs.Rules.{decideOf, overdue, leastRoom}
+use Rattle.rules.specs.Claims.{answerOf}
+use Rattle.rules.specs.Decide.{leastRoom}
+use Rattle.rules.specs.Ends.{wasUp}
+use Rattle.rules.specs.Living.{overdue, mayAsk}
+use Rattle.rules.specs.Make.{asksAtOnce}
+use Rattle.rules.specs.Perform.{performed}
 use Rattle.rules.specs.State.{phaseOf}
+use Rattle.rules.specs.Talking.{hasGap, deliveredAnswer}
 use Rattle.rules.specs.declared.answer.Answer.{Answer}
-use Rattle.rules.specs.declared.answer.Answer.the-variants.{NoRoom as noRoom, ClockBack as clockBack}
 use Rattle.rules.specs.declared.act.Event.{Event}
 use Rattle.rules.specs.declared.act.Event.the-variants.{Tick, Connect, Confirm, Disconnect, Data, Message}
 use Rattle.rules.specs.declared.act.Act.{Act}
 use Rattle.rules.specs.declared.act.Act.the-variants.{Stay, Note, Move, Start, Hear, Say}
-use Rattle.rules.specs.declared.act.Connection.{Connection}
-use Rattle.rules.specs.declared.act.Connection.the-variants.{Ask, Accept, Lose, Fall}
+use Rattle.rules.specs.declared.act.ConnectionMove.{ConnectionMove}
+use Rattle.rules.specs.declared.act.ConnectionMove.the-variants.{Ask, Accept, Lose, Fall}
 use Rattle.rules.specs.declared.act.Exchange.{Exchange}
 use Rattle.rules.specs.declared.act.Exchange.the-variants.{Begin, Greet, Measure, Estimate, Finish, Rise}
 use Rattle.rules.specs.declared.act.Verdict.{Verdict}
@@ -35,327 +35,225 @@ use Rattle.rules.specs.declared.state.Life.{Life}
 use Rattle.rules.specs.declared.state.Life.the-variants.{Idle, Calling, Opening, Settling, Greeted, Answering, Closing, Up}
 use Rattle.rules.specs.declared.state.Phase.the-variants.{Starting as starting}
 use Rattle.rules.specs.declared.state.End.{End}
-use Rattle.link.specs.Claims.{answerOf}
-use Rattle.link.specs.Make.{asksAtOnce}
-use Rattle.link.specs.Perform.{performed, isUpIn, wasUp}
-use Rattle.link.specs.Step.{Result, resultOf, effectOf, stepped}
-use Rattle.history.specs.Run.{Call, Kept, Entry, cameTo}
-use Rattle.history.specs.Events.{isTick, isConfirm, isMessage, isAccepted, isDelivery}
-use Rattle.history.specs.Timed.{isPassedBy, roomy}
-use Rattle.history.specs.Waiting.{waits, asks, isIdle, rests}
+use Rattle.rules.proofs.Answered.{exchange-comes, exchange-awake, exchange-low, failure-comes, fall-awake}
+use Rattle.rules.proofs.Grounds.{NoteGrounds, MoveGrounds, ExchangeGrounds, VerdictGrounds, SpeechGrounds, StayGrounds}
+use Rattle.rules.proofs.Grounds.StayGrounds.{no-room, went-back}
+use Rattle.rules.proofs.Lives.{apart, up-awake, only-up, waking}
+use Rattle.run.specs.Run.{Call, Kept, Entry, cameTo}
+use Rattle.run.specs.Events.{isTick, isConfirm, isAcceptance, isDelivery, isPassedBy}
+use Rattle.run.proofs.Brought.{Brings, no-delivery, delivered-yes, known-brings, refused-brings, stay-refused, failure-refused, fall-refused, note-brings}
+use Rattle.run.proofs.Calls.{entryBy, by-call}
+use Rattle.run.proofs.Choices.{not-true, either-false, same-false}
+use Rattle.run.proofs.Events.{is-delivery}
+use Rattle.run.proofs.Noted.{note-sort, sort-timely, sort-tick}
+use Rattle.history.specs.Timed.{roomy}
+use Rattle.history.specs.Waiting.{waits, asksIn, isIdleIn, isIdle, rests}
 use Rattle.history.specs.Silence.{hears}
-use Rattle.history.proofs.Choices.{and-false, either-false, same-false}
-use Rattle.history.proofs.Entries.{entryWith}
-use Rattle.history.proofs.Falls.{failure-between, failure-comes, fall-between, fall-awake}
-use Rattle.history.proofs.Lives.{awake, is-delivery}
-use Rattle.history.proofs.Noted.{NoteGrounds, Grounded, noted, note-low, note-either}
 
--- ---- the sorts of an event
+-- ---- the fates
 
-pub record Sorts (x : Entry) (w a r h : Bool) : Type 0 where
-  pub wait : waits x ≡ w
-  pub ask : asks x ≡ a
-  pub rest : rests x ≡ r
-  pub hear : hears x ≡ h
+-- the end before an event, and after it
+abbrev pub old : Entry → End
+old x = x .before .end
 
--- what the asking needs is as it was
-pub record SameAsking (e f : End) : Type 0 where
-  pub asked : f .asked ≡ e .asked
-  pub at-once : f .«at_once» ≡ e .«at_once»
+abbrev pub new : Entry → End
+new x = x .result .outcome .end
 
--- ---- the nine fates
+-- whether the wait begins, the end asks, comes to rest, and hears of its peer
+abbrev pub Sorts : Entry → Bool → Bool → Bool → Bool → Type 0
+Sorts x w a r h = (waits x ≡ w) × (asksIn x ≡ a) × (rests x ≡ r) × (hears x ≡ h)
+
+-- a connect indication to an initiator, or an end that is not overdue
+abbrev pub InTime : End → Event → Reading → Type 0
+InTime e event at = (isPassedBy (e .role) event ≡ true) ⊎ (overdue e at ≡ false)
+
+-- the phase and its times are as they were, and no tick found an Idle initiator that may ask
+pub record Keeping (e f : End) (event : Event) (at : Reading) : Type 0 where
+  pub phase : phaseOf (f .life) ≡ phaseOf (e .life)
+  pub calling : f .life ≡ Calling → e .life ≡ Calling
+  pub began : f .line .began ≡ e .line .began
+  pub heard : f .line .times .heard ≡ e .line .times .heard
+  pub asking : f .asking ≡ e .asking
+  pub timely : InTime e event at
+  pub early : isTick event ≡ true → e .life ≡ Idle → e .role ≡ Initiator → mayAsk e at ≡ false
 
 pub data Fate (x : Entry) : Type 0 where
   -- nothing changes, the reading neither
-  still : (roomy x ≡ false) ⊎ (backOf (x .call .at) (x .before .end .reading) ≡ true)
-      → (answerOf (x .result) ≡ 2) ⊎ (answerOf (x .result) ≡ 14) → x .result .outcome .end ≡ x .before .end
+  still : (roomy x ≡ false) ⊎ (backOf (x .call .at) (old x .reading) ≡ true)
+      → (answerOf (x .result) ≡ 2) ⊎ (answerOf (x .result) ≡ 14) → new x ≡ old x
       → Sorts x false false false false → Fate x
-  -- life and times are as they were
-  keeps : x .result .outcome .end .reading ≡ x .call .at → Sorts x false false false false
-      → x .result .outcome .end .life ≡ x .before .end .life → x .result .outcome .end .line .began ≡ x .before .end .line .began
-      → x .result .outcome .end .line .heard ≡ x .before .end .line .heard → SameAsking (x .before .end) (x .result .outcome .end)
-      → (isPassedBy (x .before .end .role) (x .call .event) ≡ true) ⊎ (overdue (x .before .end) (x .call .at) ≡ false)
-      → (isTick (x .call .event) ≡ true → x .before .end .life ≡ Idle → x .before .end .role ≡ Initiator
-      → x .before .end .«at_once» || passedOf (x .call .at) (x .before .end .asked) (x .before .end .settings .retry) ≡ false)
-      → Fate x
-  -- a message is delivered
-  delivers : x .result .outcome .end .reading ≡ x .call .at → Sorts x false false false true → x .result .outcome .end .life ≡ Up
-      → x .result .outcome .end .line .heard ≡ x .call .at → SameAsking (x .before .end) (x .result .outcome .end)
-      → Fate x
-  asking : x .result .outcome .end .reading ≡ x .call .at → Sorts x true true false false → x .result .outcome .end .life ≡ Calling
-      → x .result .outcome .end .line .began ≡ x .call .at → x .result .outcome .end .asked ≡ x .call .at → Fate x
-  accepting : x .result .outcome .end .reading ≡ x .call .at → Sorts x true false false false → x .result .outcome .end .life ≡ Greeted
-      → x .result .outcome .end .line .began ≡ x .call .at → x .before .end .role ≡ Called → Fate x
-  falling : x .result .outcome .end .reading ≡ x .call .at → Sorts x false false true false → x .result .outcome .end .life ≡ Idle
-      → (x .before .end .life ≡ Idle → ⊥) → x .result .outcome .end .asked ≡ x .before .end .asked
-      → x .result .outcome .end .«at_once» ≡ x .before .end .«at_once» || (wasUp (x .before .end) && asksAtOnce (x .before .end .role)) → Fate x
+  keeps : new x .reading ≡ x .call .at → Sorts x false false false false
+      → Keeping (old x) (new x) (x .call .event) (x .call .at) → Fate x
+  -- the end is Up, and has just heard of its peer
+  hearing : new x .reading ≡ x .call .at → Sorts x false false false true → new x .life ≡ Up
+      → new x .line .times .heard ≡ x .call .at → new x .asking ≡ old x .asking → Fate x
+  asking : new x .reading ≡ x .call .at → Sorts x true true false false → new x .life ≡ Calling
+      → new x .line .began ≡ x .call .at → new x .asking .when ≡ x .call .at → Fate x
+  accepting : new x .reading ≡ x .call .at → Sorts x true false false false → new x .life ≡ Greeted
+      → new x .line .began ≡ x .call .at → old x .role ≡ Called → Fate x
   -- the confirm has come
-  beginning : x .result .outcome .end .reading ≡ x .call .at → Sorts x true false false false → x .before .end .life ≡ Calling
-      → x .result .outcome .end .life ≡ Opening → x .result .outcome .end .line .began ≡ x .call .at
-      → SameAsking (x .before .end) (x .result .outcome .end) → overdue (x .before .end) (x .call .at) ≡ false → Fate x
-  -- from one starting state to the next
-  starts : x .result .outcome .end .reading ≡ x .call .at → Sorts x false false false false
-      → phaseOf (x .before .end .life) ≡ starting → phaseOf (x .result .outcome .end .life) ≡ starting
-      → (x .result .outcome .end .life ≡ Calling → ⊥) → x .result .outcome .end .line .began ≡ x .before .end .line .began
-      → SameAsking (x .before .end) (x .result .outcome .end) → overdue (x .before .end) (x .call .at) ≡ false → Fate x
-  rising : x .result .outcome .end .reading ≡ x .call .at → Sorts x false false false true → x .result .outcome .end .life ≡ Up
-      → x .result .outcome .end .line .heard ≡ x .call .at → SameAsking (x .before .end) (x .result .outcome .end)
-      → Fate x
+  beginning : new x .reading ≡ x .call .at → Sorts x true false false false → new x .life ≡ Opening
+      → new x .line .began ≡ x .call .at → old x .life ≡ Calling
+      → new x .asking ≡ old x .asking → overdue (old x) (x .call .at) ≡ false → Fate x
+  falling : new x .reading ≡ x .call .at → Sorts x false false true false → new x .life ≡ Idle
+      → (old x .life ≡ Idle → ⊥) → new x .asking .when ≡ old x .asking .when
+      → new x .asking .«at_once» ≡ old x .asking .«at_once» || (wasUp (old x) && asksAtOnce (old x .role)) → Fate x
 
--- ---- the tests of the sorts, one by one
-
-abbrev waitsBy : Bool → Event → ℕ → Bool
-waitsBy opens event n = opens || (isConfirm event && eqb n 0)
-
-abbrev hearsBy : Bool → Event → Bool → ℕ → Bool
-hearsBy up event was n = up || isDelivery was event n
-
--- another answer than 0 and 13 begins no wait and delivers nothing
-waits-not : (event : Event) (n : ℕ) → (n ≡ 0 → ⊥) → waitsBy false event n ≡ false
-waits-not event n some = ap (λ (t : Bool). isConfirm event && t) (ne-eqb n 0 some) ∙ and-false (isConfirm event)
-
-hears-not : (event : Event) (was : Bool) (n : ℕ) → (n ≡ 0 → ⊥) → (n ≡ 13 → ⊥) → hearsBy false event was n ≡ false
-hears-not event was n some other =
-    ap₂ (λ (s t : Bool). was && isMessage event && (s || t)) (ne-eqb n 0 some) (ne-eqb n 13 other) ∙ and-false (was && isMessage event)
-
--- nor does another event
-waits-else : (event what : Event) (n : ℕ) → event ≡ what → isConfirm what ≡ false → waitsBy false event n ≡ false
-waits-else event what n is none′ = ap (λ (t : Bool). t && eqb n 0) (ap isConfirm is ∙ none′)
-
-hears-else : (event what : Event) (was : Bool) (n : ℕ) → event ≡ what → isMessage what ≡ false → hearsBy false event was n ≡ false
-hears-else event what was n is none′ =
-    ap (λ (t : Bool). was && t && isAccepted n) (ap isMessage is ∙ none′) ∙ ap (λ (t : Bool). t && isAccepted n) (and-false was)
-
--- nothing is delivered but while Up
-hears-low : (event : Event) (l m : Life) (n : ℕ) → l ≡ m → isUpIn (phaseOf m) ≡ false → hearsBy false event (isUpIn (phaseOf l)) n ≡ false
-hears-low event l m n is low =
-    ap (λ (t : Bool). t && isMessage event && isAccepted n) (ap (λ (x : Life). isUpIn (phaseOf x)) is ∙ low)
-
--- ---- notes
-
-module _ (e : End) (event : Event) (at : Reading) (a : Answer) (why : NoteGrounds e event at a) where
-  note-waits : waitsBy false event (numberOf a) ≡ false
-  note-waits =
-      ⊎-elim (λ tick. waits-else event Tick (numberOf a) tick refl) (λ some. waits-not event (numberOf a) some) (note-either e event at a why)
-
-  note-hears : notes a ≡ true → (was : Bool) → hearsBy false event was (numberOf a) ≡ false
-  note-hears low was =
-      ⊎-elim (λ tick. hears-else event Tick was (numberOf a) tick refl)
-      (λ some. hears-not event was (numberOf a) some (λ z. let n = note-low a low in omega arith)) (note-either e event at a why)
+awake : (l : Life) → (l ≡ Idle → ⊥) → isIdle l ≡ false
+awake l alive = ⊎-elim (ap isIdleIn) (ap isIdle) (waking l alive)
 
 -- ---- each act
 
-same-asking : (e f : End) → f .asked ≡ e .asked → f .«at_once» ≡ e .«at_once» → SameAsking e f
-same-asking e f p q = record { asked = p; at-once = q }
+module _ (k : Kept) (c : Call) where
+  abbrev e : End
+  e = k .end
 
-module _ (e : End) (event : Event) (at : Reading) (b out q : List ℕ) where
   abbrev FateOf : Act → Type 0
-  FateOf act = Fate (entryWith e event at b out q (resultOf (performed e act at) b out q))
+  FateOf act = Fate (entryBy k c act)
 
-  move-fate : (m : Connection) → MoveGrounds e event at b m → FateOf (Move m)
+  unheard : (n : ℕ) → isAcceptance (c .event) n ≡ false → isDelivery (wasUp e) (c .event) n ≡ false
+  unheard n none = no-delivery (wasUp e) (c .event) n none
+
+  -- of an event that brings nothing and keeps the life
+  abbrev Calm : ℕ → Type 0
+  Calm n =
+      (isConfirm (c .event) && eqb n 0 ≡ false) × (false ≡ false) × (cond (isIdle (e .life)) false (isIdle (e .life)) ≡ false)
+      × (isDelivery (wasUp e) (c .event) n ≡ false)
+
+  calm : (n : ℕ) (d : Bool) → Brings (c .event) n false d false → Calm n
+  calm n d b = (b .2, refl, same-false (isIdle (e .life)), unheard n (b .0))
+
+  -- ---- connections
+
+  move-fate : (m : ConnectionMove) → MoveGrounds e (c .event) (c .at) (c .given) m → FateOf (Move m)
   unfolding performed
   move-fate Ask g =
-      asking refl (record { wait = refl; ask = refl; rest = either-false (isIdle (e .life)); hear = hears-else event Tick (wasUp e) 0 (g .0) refl }) refl refl refl
+      let b = known-brings (c .event) Tick 0 false false false (g .0 .comes) (refl, refl, refl) in
+      asking refl (refl, refl, either-false (isIdle (e .life)), unheard 0 (b .0)) refl refl refl
   move-fate Accept g =
-      accepting refl
-      (record { wait = refl; ask = refl; rest = either-false (isIdle (e .life)); hear = hears-else event Connect (wasUp e) 0 (g .0) refl }) refl refl (g .1)
+      let b = known-brings (c .event) Connect 0 false false false (g .0) (refl, refl, refl) in
+      accepting refl (refl, refl, either-false (isIdle (e .life)), unheard 0 (b .0)) refl refl (g .1)
   move-fate Lose g =
-      falling refl
-      (record {
-        wait = waits-else event Disconnect 0 (g .0) refl;
-        ask = refl;
-        rest = ap (λ (t : Bool). cond t false true) (awake (e .life) (g .1));
-        hear = hears-else event Disconnect (wasUp e) 0 (g .0) refl;
-      })
-      refl (g .1) refl refl
-  move-fate (Fall answer error) g =
-      let n = fall-between e event at b answer error g in
-      let alive = fall-awake e event at b answer error g in
-      falling refl
-      (record {
-        wait = waits-not event (numberOf answer) (λ z. omega arith);
-        ask = refl;
-        rest = ap (λ (t : Bool). cond t false true) (awake (e .life) alive);
-        hear = hears-not event (wasUp e) (numberOf answer) (λ z. omega arith) (λ z. omega arith);
-      })
-      refl alive refl refl
+      let b = known-brings (c .event) Disconnect 0 false false false (g .0) (refl, refl, refl) in
+      falling refl (b .2, refl, ap (λ (t : Bool). cond t false true) (awake (e .life) (g .1)), unheard 0 (b .0)) refl (g .1) refl refl
+  move-fate (Fall a error) g =
+      let b = refused-brings (c .event) (numberOf a) (fall-refused e (c .event) (c .at) (c .given) a error g) in
+      let alive = fall-awake e (c .event) (c .at) (c .given) a error g in
+      falling refl (b .2, refl, ap (λ (t : Bool). cond t false true) (awake (e .life) alive), unheard (numberOf a) (b .0)) refl alive refl refl
 
-  -- a message of the start: neither a wait begins nor is anything delivered
-  module _ (l : Life) (comes : event ≡ Message) (living : e .life ≡ l) (low : isUpIn (phaseOf l) ≡ false) where
-    starting-waits : waitsBy false event 0 ≡ false
-    starting-waits = waits-else event Message 0 comes refl
+  -- ---- messages of the start
 
-    starting-hears : hearsBy false event (wasUp e) 0 ≡ false
-    starting-hears = hears-low event (e .life) l 0 living low
+  module _ (x : Exchange) (g : ExchangeGrounds e (c .event) (c .at) (c .given) x) where
+    abbrev phase : phaseOf (e .life) ≡ starting
+    phase = exchange-comes e (c .event) (c .at) (c .given) x g .0
 
-    starting-phase : phaseOf l ≡ starting → phaseOf (e .life) ≡ starting
-    starting-phase is = ap phaseOf living ∙ is
+    low : wasUp e ≡ false
+    low = not-true (wasUp e) (λ is. exchange-low e (c .event) (c .at) (c .given) x g (only-up (e .life) is))
 
-  start-fate : (x : Exchange) → ExchangeGrounds e event at b x → FateOf (Start x)
+    -- nothing is delivered, and the end is not Idle afterwards
+    goes-on : (what : Event) (w : Bool) → c .event ≡ what → isConfirm what && true ≡ w
+        → (isConfirm (c .event) && true ≡ w) × (false ≡ false) × (cond (isIdle (e .life)) false false ≡ false) × (isDelivery (wasUp e) (c .event) 0 ≡ false)
+    goes-on what w comes is = (
+      ap (λ (v : Event). isConfirm v && true) comes ∙ is,
+      refl,
+      either-false (isIdle (e .life)),
+      ap (λ (t : Bool). t && isAcceptance (c .event) 0) low,
+    )
+
+    starting-early : isTick (c .event) ≡ true → e .life ≡ Idle → e .role ≡ Initiator → mayAsk e (c .at) ≡ false
+    starting-early tick idle = absurd (exchange-awake e (c .event) (c .at) (c .given) x g idle)
+
+    continues : (f : End) → phaseOf (f .life) ≡ starting → (f .life ≡ Calling → ⊥) → f .line .began ≡ e .line .began → f .line .times .heard ≡ e .line .times .heard
+        → f .asking ≡ e .asking → Keeping e f (c .event) (c .at)
+    continues f is other began heard asks =
+        record {
+          phase = is ∙ sym phase;
+          calling = λ z. absurd (other z);
+          began = began;
+          heard = heard;
+          asking = asks;
+          timely = inr (exchange-comes e (c .event) (c .at) (c .given) x g .1);
+          early = starting-early;
+        }
+
+  start-fate : (x : Exchange) → ExchangeGrounds e (c .event) (c .at) (c .given) x → FateOf (Start x)
   unfolding performed
-  start-fate Begin g =
-      beginning refl
-      (record {
-        wait = ap (λ (v : Event). waitsBy false v 0) (g .0);
-        ask = refl;
-        rest = either-false (isIdle (e .life));
-        hear = hears-else event Confirm (wasUp e) 0 (g .0) refl;
-      })
-      (g .2) refl refl (same-asking e _ refl refl) (g .1)
-  start-fate (Greet h) g =
-      let hearing = g .hearing in
-      starts refl
-      (record {
-        wait = starting-waits Greeted (hearing .comes) (hearing .living) refl;
-        ask = refl;
-        rest = either-false (isIdle (e .life));
-        hear = starting-hears Greeted (hearing .comes) (hearing .living) refl;
-      })
-      (starting-phase Greeted (hearing .comes) (hearing .living) refl refl) refl (apart Answering Calling refl) refl (same-asking e _ refl refl) (hearing .timely)
-  start-fate (Measure h minimum maximum) g =
-      let hearing = g .0 .hearing in
-      starts refl
-      (record {
-        wait = starting-waits Opening (hearing .comes) (hearing .living) refl;
-        ask = refl;
-        rest = either-false (isIdle (e .life));
-        hear = starting-hears Opening (hearing .comes) (hearing .living) refl;
-      })
-      (starting-phase Opening (hearing .comes) (hearing .living) refl refl) refl (apart Settling Calling refl) refl (same-asking e _ refl refl) (hearing .timely)
-  start-fate (Estimate h minimum maximum) g =
-      let hearing = g .0 .hearing in
-      starts refl
-      (record {
-        wait = starting-waits Answering (hearing .comes) (hearing .living) refl;
-        ask = refl;
-        rest = either-false (isIdle (e .life));
-        hear = starting-hears Answering (hearing .comes) (hearing .living) refl;
-      })
-      (starting-phase Answering (hearing .comes) (hearing .living) refl refl) refl (apart Closing Calling refl) refl (same-asking e _ refl refl) (hearing .timely)
-  start-fate (Finish h) g =
-      rising refl
-      (record {
-        wait = waits-else event Message 0 (g .2 .hearing .comes) refl;
-        ask = refl;
-        rest = either-false (isIdle (e .life));
-        hear = refl;
-      })
-      refl refl (same-asking e _ refl refl)
+  start-fate (Begin goes) g =
+      beginning refl (goes-on (Begin goes) g Confirm true (g .0 .comes) refl) refl refl (g .1) refl (g .0 .timely)
+  start-fate (Greet s) g =
+      keeps refl (goes-on (Greet s) g Message false (g .2 .hearing .comes) refl) (continues (Greet s) g _ refl (apart Answering Calling refl) refl refl refl)
+  start-fate (Measure m) g =
+      keeps refl (goes-on (Measure m) g Message false (g .2 .hearing .comes) refl) (continues (Measure m) g _ refl (apart Settling Calling refl) refl refl refl)
+  start-fate (Estimate m) g =
+      keeps refl (goes-on (Estimate m) g Message false (g .2 .hearing .comes) refl) (continues (Estimate m) g _ refl (apart Closing Calling refl) refl refl refl)
+  start-fate (Finish s) g =
+      hearing refl (ap (λ (v : Event). isConfirm v && true) (g .4 .hearing .comes), refl, either-false (isIdle (e .life)), refl) refl refl refl
   start-fate (Rise h) g =
-      rising refl
-      (record {
-        wait = waits-else event Message 0 (g .hearing .comes) refl;
-        ask = refl;
-        rest = either-false (isIdle (e .life));
-        hear = refl;
-      })
-      refl refl (same-asking e _ refl refl)
+      hearing refl (ap (λ (v : Event). isConfirm v && true) (g .hearing .comes), refl, either-false (isIdle (e .life)), refl) refl refl refl
 
-  -- an event at an end that is Up and stays so asks for nothing
-  up-early : e .life ≡ Up → isTick event ≡ true → e .life ≡ Idle → e .role ≡ Initiator → e .«at_once» || passedOf at (e .asked) (e .settings .retry) ≡ false
-  up-early living is idle role = absurd (apart Up Idle refl (sym living ∙ idle))
+  -- ---- while Up
 
-  hear-fate : (v : Verdict) → VerdictGrounds e event at b v → FateOf (Hear v)
+  same : (f : End) → f .life ≡ e .life → f .line .began ≡ e .line .began → f .line .times .heard ≡ e .line .times .heard → f .asking ≡ e .asking
+      → InTime e (c .event) (c .at) → (isTick (c .event) ≡ true → e .life ≡ Idle → e .role ≡ Initiator → mayAsk e (c .at) ≡ false)
+      → Keeping e f (c .event) (c .at)
+  same f life began heard asks timely early =
+      record { phase = ap phaseOf life; calling = λ is. sym life ∙ is; began = began; heard = heard; asking = asks; timely = timely; early = early }
+
+  up-early : e .life ≡ Up → isTick (c .event) ≡ true → e .life ≡ Idle → e .role ≡ Initiator → mayAsk e (c .at) ≡ false
+  up-early up tick idle = absurd (up-awake (e .life) up idle)
+
+  hear-fate : (v : Verdict) → VerdictGrounds e (c .event) (c .at) (c .given) v → FateOf (Hear v)
   unfolding performed
-  hear-fate (Deliver h train true) g =
-      delivers refl
-      (record {
-        wait = waits-not event 13 (λ z. omega arith);
-        ask = refl;
-        rest = same-false (isIdle (e .life));
-        hear = is-delivery event (e .life) 13 (g .0 .comes) (g .0 .living) refl;
-      })
-      (g .0 .living) refl (same-asking e _ refl refl)
-  hear-fate (Deliver h train false) g =
-      delivers refl
-      (record {
-        wait = waits-else event Message 0 (g .0 .comes) refl;
-        ask = refl;
-        rest = same-false (isIdle (e .life));
-        hear = is-delivery event (e .life) 0 (g .0 .comes) (g .0 .living) refl;
-      })
-      (g .0 .living) refl (same-asking e _ refl refl)
-  hear-fate (Report answer failures) g =
-      let n = failure-between e event at b answer (g .0) in
-      let up = failure-comes e event at b answer (g .0) in
-      keeps refl
-      (record {
-        wait = waits-not event (numberOf answer) (λ z. omega arith);
-        ask = refl;
-        rest = same-false (isIdle (e .life));
-        hear = hears-not event (wasUp e) (numberOf answer) (λ z. omega arith) (λ z. omega arith);
-      })
-      refl refl refl (same-asking e _ refl refl) (inr (up .1)) (up-early (up .2))
+  hear-fate (Deliver d) g =
+      let n = numberOf (deliveredAnswer (hasGap d)) in
+      let delivers = is-delivery (c .event) (e .life) n (g .0 .comes) (g .0 .living) (delivered-yes (hasGap d)) in
+      hearing refl (ap (λ (v : Event). isConfirm v && eqb n 0) (g .0 .comes), refl, same-false (isIdle (e .life)), delivers)
+      (g .0 .living) refl refl
+  hear-fate (Report a failures) g =
+      let come = failure-comes e (c .event) (c .at) (c .given) a (g .0) in
+      keeps refl (calm (numberOf a) false (refused-brings (c .event) (numberOf a) (failure-refused e (c .event) (c .at) (c .given) a (g .0))))
+      (same _ refl refl refl refl (inr (come .1)) (up-early (come .2)))
 
-  -- of an event that lets the end speak
-  speech-sorts : (f : Result) (what : Event) → event ≡ what → isConfirm what ≡ false → isMessage what ≡ false → numberOf (f .outcome .answer) ≡ 0
-      → f .outcome .flags .ask ≡ false → f .outcome .flags .accept ≡ false → f .outcome .flags .up ≡ false → f .outcome .end .life ≡ e .life
-      → Sorts (entryWith e event at b out q f) false false false false
-  speech-sorts f what comes none′ other zero′ ask accept up life =
-      record {
-        wait = rw (ask, accept) (waits-else event what (numberOf (f .outcome .answer)) comes none′);
-        ask = ask;
-        rest = ap (λ (l : Life). cond (isIdle (e .life)) false (isIdle l)) life ∙ same-false (isIdle (e .life));
-        hear = rw up (hears-else event what (wasUp e) (numberOf (f .outcome .answer)) comes other);
-      }
+  by-event : (what : Event) (d : Bool) → c .event ≡ what → Brings what 0 false d false → Calm 0
+  by-event what d comes b = calm 0 d (known-brings (c .event) what 0 false d false comes b)
 
-  say-fate : (s : Speech) → SpeechGrounds e event at b s → FateOf (Say s)
+  say-fate : (s : Speech) → SpeechGrounds e (c .event) (c .at) (c .given) s → FateOf (Say s)
   unfolding performed
   say-fate Quiet g =
-      keeps refl (speech-sorts _ Tick (g .0 .comes) refl refl refl refl refl refl refl) refl refl refl (same-asking e _ refl refl) (inr (g .0 .timely)) (up-early (g .0 .living))
+      keeps refl (by-event Tick false (g .0 .comes) (refl, refl, refl)) (same _ refl refl refl refl (inr (g .0 .timely)) (up-early (g .0 .living)))
   say-fate Beat g =
-      keeps refl (speech-sorts _ Tick (g .0 .comes) refl refl refl refl refl refl refl) refl refl refl (same-asking e _ refl refl) (inr (g .0 .timely)) (up-early (g .0 .living))
+      keeps refl (by-event Tick false (g .0 .comes) (refl, refl, refl)) (same _ refl refl refl refl (inr (g .0 .timely)) (up-early (g .0 .living)))
   say-fate Speak g =
-      keeps refl (speech-sorts _ Data (g .0 .comes) refl refl refl refl refl refl refl) refl refl refl (same-asking e _ refl refl) (inr (g .0 .timely)) (up-early (g .0 .living))
+      keeps refl (by-event Data true (g .0 .comes) (refl, refl, refl)) (same _ refl refl refl refl (inr (g .0 .timely)) (up-early (g .0 .living)))
   say-fate Drain g =
-      keeps refl (speech-sorts _ Tick (g .0 .comes) refl refl refl refl refl refl refl) refl refl refl (same-asking e _ refl refl) (inr (g .0 .timely)) (up-early (g .0 .living))
+      keeps refl (by-event Tick false (g .0 .comes) (refl, refl, refl)) (same _ refl refl refl refl (inr (g .0 .timely)) (up-early (g .0 .living)))
   say-fate Hold g =
-      keeps refl (speech-sorts _ Data (g .0 .comes) refl refl refl refl refl refl refl) refl refl refl (same-asking e _ refl refl) (inr (g .0 .timely)) (up-early (g .0 .living))
+      keeps refl (by-event Data true (g .0 .comes) (refl, refl, refl)) (same _ refl refl refl refl (inr (g .0 .timely)) (up-early (g .0 .living)))
 
-  note-fate : (answer : Answer) → NoteGrounds e event at answer → notes answer ≡ true → FateOf (Note answer)
+  -- ---- notes, and events that are not taken
+
+  note-fate : (a : Answer) → NoteGrounds e (c .event) (c .at) (c .given) a → FateOf (Note a)
   unfolding performed
-  note-fate answer why low =
-      keeps refl
-      (record {
-        wait = note-waits e event at answer why;
-        ask = refl;
-        rest = same-false (isIdle (e .life));
-        hear = note-hears e event at answer why low (wasUp e);
-      })
-      refl refl refl (same-asking e _ refl refl) (why .timely) (why .early)
+  note-fate a g =
+      let sort = note-sort e (c .event) (c .at) (c .given) a g in
+      keeps refl (calm (numberOf a) false (note-brings e (c .event) (c .at) (c .given) a g))
+      (same _ refl refl refl refl (sort-timely e (c .event) (c .at) (c .given) (numberOf a) sort)
+      (λ tick. sort-tick e (c .event) (c .at) (c .given) (numberOf a) sort tick .1))
 
-  stay-fate : (answer : Answer) → (numberOf answer ≡ 2) ⊎ (numberOf answer ≡ 14)
-      → (leb leastRoom (length out) ≡ false) ⊎ (backOf at (e .reading) ≡ true) → FateOf (Stay answer)
+  stay-fate : (a : Answer) (g : StayGrounds e (c .event) (c .at) (c .given) (length (c .out)) a) → FateOf (Stay a)
   unfolding performed
-  stay-fate answer which why =
-      let some : numberOf answer ≡ 0 → ⊥ = λ z. ⊎-elim (λ n. omega arith) (λ n. omega arith) which in
-      let other : numberOf answer ≡ 13 → ⊥ = λ z. ⊎-elim (λ n. omega arith) (λ n. omega arith) which in
-      still why which refl
-      (record {
-        wait = waits-not event (numberOf answer) some;
-        ask = refl;
-        rest = same-false (isIdle (e .life));
-        hear = hears-not event (wasUp e) (numberOf answer) some other;
-      })
+  stay-fate a g =
+      let why = whys a g in
+      still (why .0) (why .1) refl
+      (calm (numberOf a) false (refused-brings (c .event) (numberOf a) (stay-refused e (c .event) (c .at) (c .given) (length (c .out)) a g)))
+    where
+      whys : (a : Answer) → StayGrounds e (c .event) (c .at) (c .given) (length (c .out)) a
+          → ((leb leastRoom (length (c .out)) ≡ false) ⊎ (backOf (c .at) (e .reading) ≡ true)) × ((numberOf a ≡ 2) ⊎ (numberOf a ≡ 14))
+      whys a (no-room is short) =
+          (inl (lt-leb leastRoom (length (c .out)) (ltb-true (length (c .out)) leastRoom short)), inr (ap numberOf is))
+      whys a (went-back is fits back) = (inr back, inl (ap numberOf is))
 
-  taken-fate : (act : Act) → Grounded e event at act → Taken e event at b act → FateOf act
-  taken-fate (Stay answer) why g = absurd g
-  taken-fate (Note answer) why g = note-fate answer why g
-  taken-fate (Move m) why g = move-fate m g
-  taken-fate (Start x) why g = start-fate x g
-  taken-fate (Hear v) why g = hear-fate v g
-  taken-fate (Say s) why g = say-fate s g
-
-  act-fate : (act : Act) → Grounded e event at act → Decided e event at b (length out) act → FateOf act
-  act-fate act why (no-room short is) =
-      subst FateOf (sym is) (stay-fate noRoom (inr refl) (inl (lt-leb leastRoom (length out) (ltb-true (length out) leastRoom short))))
-  act-fate act why (went-back fits back is) = subst FateOf (sym is) (stay-fate clockBack (inl refl) (inr back))
-  act-fate act why (taken fits forth g) = taken-fate act why g
-
-pub step-fate : (k : Kept) (c : Call) → Fate (record { before = k; call = c; result = cameTo k c })
-unfolding stepped effectOf
-step-fate k c =
-    let e = k .end in
-    let room = length (c .out) in
-    act-fate e (c .event) (c .at) (c .given) (c .out) (k .queue) (decideOf e (c .event) (c .at) (c .given) room) (noted e (c .event) (c .at) (c .given) room)
-    (decided e (c .event) (c .at) (c .given) room)
+  pub fate : Fate (record { before = k; call = c; result = cameTo k c })
+  fate =
+      by-call k c Fate stay-fate
+      (λ _. record { notes = note-fate; moves = move-fate; starts = start-fate; hears = hear-fate; says = say-fate })

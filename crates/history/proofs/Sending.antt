@@ -1,62 +1,60 @@
--- The user's data, from the taking to the sending: one step, and then every run.
-use Prim.Native.Nat.{ℕ, _<_}
-use native.Mathlib.Omega.{arith}
-use mathlib.Core.Bool.{Bool, true, false, cond, _&&_, and-eq-true-iff, false≢true}
+-- The user's data, from the handing in to the sending: one event, and then every run.
+use Prim.Native.Nat.{ℕ}
+use mathlib.Core.Bool.{Bool, true, false, cond, false≢true}
 use mathlib.Core.List.{List, [], _∷_, _++_, append-nil, append-assoc}
 use mathlib.Core.Logic.{_⊎_, inl, inr, ⊎-elim}
-use mathlib.Core.Path.{_≡_, refl, sym, ap, ap₂, subst, _∙_}
-use borrow.Author.Tests.{leb-true, ltb-true, ne-eqb}
-use lib.Dec.{leb, ltb}
+use mathlib.Core.Path.{_≡_, refl, sym, ap, ap₂, _∙_}
 use lib.ListN.{length}
 use lib.Seq.{take-append-seam}
-use Rattle.judge.specs.declared.clock.Reading.{Reading}
-use Rattle.queue.proofs.Claims.{put-comes-last, takes-first, empty-has-none}
-use Rattle.queue.specs.Ring.{size, places, entries, waitingIn, oldestIn, takenFrom, putRing, putBytes, dataFrom}
+use Rattle.queue.proofs.Claims.{empty-has-none}
+use Rattle.queue.specs.Ring.{size, emptyRing, entries, waitingIn, oldestIn, withoutOldest, dataFrom}
 use Rattle.queue.specs.declared.Ring.{Ring}
 use Rattle.wire.proofs.Tests.{by-test}
-use Rattle.wire.specs.Message.{encode, headerBytes, longest}
+use Rattle.wire.specs.Message.{encode, headerBytes}
+use Rattle.wire.specs.Writing.{over}
 use Rattle.wire.specs.declared.message.Body.{Body}
 use Rattle.wire.specs.declared.message.Body.the-variants.{OffsetStart, OffsetAnsw1, OffsetAnsw2, OffsetEst, OffsetEnd, LifeSign, TrainData}
 use Rattle.wire.specs.declared.message.Header.{Header}
-use Rattle.rules.proofs.Decided.{decided, apart}
-use Rattle.rules.proofs.Grounds.{Decided, Taken, MoveGrounds, ExchangeGrounds, VerdictGrounds, SpeechGrounds}
-use Rattle.rules.proofs.Grounds.Decided.{no-room, went-back, taken}
+use Rattle.wire.specs.declared.message.Message.{Message as Letter}
 use Rattle.rules.specs.Answers.{numberOf}
-use Rattle.rules.specs.Rules.{decideOf}
-use Rattle.rules.specs.declared.answer.Answer.{Answer}
-use Rattle.rules.specs.declared.answer.Answer.the-variants.{NoRoom as noRoom, ClockBack as clockBack}
+use Rattle.rules.specs.Ends.{wasUp}
+use Rattle.rules.specs.Perform.{performed}
+use Rattle.rules.specs.Place.{outAfter, queueAfter, frontAfter}
+use Rattle.rules.specs.Talking.{delivering, hasGap, deliveredAnswer}
 use Rattle.rules.specs.declared.act.Event.{Event}
-use Rattle.rules.specs.declared.act.Event.the-variants.{Tick, Confirm, Disconnect, Data, Message}
+use Rattle.rules.specs.declared.act.Event.the-variants.{Tick, Confirm, Data, Message}
 use Rattle.rules.specs.declared.act.Act.{Act}
-use Rattle.rules.specs.declared.act.Act.the-variants.{Stay, Note, Move, Start, Hear, Say}
-use Rattle.rules.specs.declared.act.Connection.{Connection}
-use Rattle.rules.specs.declared.act.Connection.the-variants.{Ask, Accept, Lose, Fall}
+use Rattle.rules.specs.declared.act.Act.the-variants.{Move, Start, Hear, Say}
+use Rattle.rules.specs.declared.act.ConnectionMove.{ConnectionMove}
+use Rattle.rules.specs.declared.act.ConnectionMove.the-variants.{Ask, Accept, Lose, Fall}
 use Rattle.rules.specs.declared.act.Exchange.{Exchange}
 use Rattle.rules.specs.declared.act.Exchange.the-variants.{Begin, Greet, Measure, Estimate, Finish, Rise}
+use Rattle.rules.specs.declared.act.Measurement.{Measurement}
+use Rattle.rules.specs.declared.act.Swap.{Swap}
 use Rattle.rules.specs.declared.act.Verdict.{Verdict}
 use Rattle.rules.specs.declared.act.Verdict.the-variants.{Deliver, Report}
 use Rattle.rules.specs.declared.act.Speech.{Speech}
 use Rattle.rules.specs.declared.act.Speech.the-variants.{Quiet, Beat, Speak, Drain, Hold}
-use Rattle.rules.specs.declared.state.Life.{Life}
-use Rattle.rules.specs.declared.state.Life.the-variants.{Idle, Calling, Opening, Settling, Greeted, Answering, Closing, Up}
+use Rattle.rules.specs.declared.effect.Front.the-variants.{Message as message}
+use Rattle.rules.specs.declared.state.Life.the-variants.{Idle, Up}
 use Rattle.rules.specs.declared.state.End.{End}
-use Rattle.link.specs.Perform.{performed, wasUp, longer, deliveredAnswer}
-use Rattle.link.specs.Step.{resultOf, effectOf, stepped}
-use Rattle.link.specs.declared.effect.Front.the-variants.{Message as message}
-use Rattle.history.specs.Run.{Making, Sound, Call, Entry, after, history, entryOf, keptIn}
-use Rattle.history.specs.Events.{isData}
-use Rattle.history.specs.Numbering.{opens}
-use Rattle.history.specs.Sending.{takenBy, takenIn, trainIn, trainAt, sentIn, waiting, lostIn, inConnection, Sending, NothingLost, WaitsWhileUp}
-use Rattle.history.proofs.Choices.{and-false}
-use Rattle.history.proofs.Entries.{entryWith}
-use Rattle.history.proofs.Falls.{failure-comes, fall-between}
-use Rattle.history.proofs.Lasting.{run-lasts}
-use Rattle.history.proofs.Lives.{was-up}
-use Rattle.history.proofs.Noted.{NoteGrounds, Grounded, noted, note-either}
+use Rattle.rules.proofs.Answered.{exchange-awake, exchange-low, failure-comes, fall-awake}
+use Rattle.rules.proofs.Grounds.{MoveGrounds, ExchangeGrounds, VerdictGrounds, SpeechGrounds}
+use Rattle.rules.proofs.Lives.{was-up, up-awake}
+use Rattle.rules.proofs.Queued.{holds-last, drains-first}
+use Rattle.run.specs.Run.{Making, Sound, Call, Entry, Kept, cameTo, after, history, entryOf, keptIn}
+use Rattle.run.specs.Events.{isHandedIn, opens}
+use Rattle.run.proofs.Brought.{refused-brings, stay-refused, fall-refused, note-brings}
+use Rattle.run.proofs.Calls.{entryBy, by-call}
+use Rattle.run.proofs.Lasting.{run-lasts}
+use Rattle.history.specs.Sending.{handedBy, handedIn, carriedIn, carriedAt, sentIn, waiting, lostIn, inConnection, Sending, NothingLost, WaitsWhileUp}
+
+abbrev Lists : Type 0
+Lists = List (List ℕ)
 
 -- ---- the train data at the front of the output
 
-abbrev trainOf : Body → List ℕ → List (List ℕ)
+abbrev trainOf : Body → List ℕ → Lists
 trainOf OffsetStart d = []
 trainOf OffsetAnsw1 d = []
 trainOf OffsetAnsw2 d = []
@@ -65,7 +63,7 @@ trainOf OffsetEnd d = []
 trainOf LifeSign d = []
 trainOf TrainData d = d ∷ []
 
-train-written : (h : Header) (body : Body) (d : List ℕ) → trainIn (encode (record { header = h; body = body }) d) ≡ trainOf body d
+train-written : (h : Header) (body : Body) (d : List ℕ) → carriedIn (encode (record { header = h; body = body }) d) ≡ trainOf body d
 unfolding encode headerBytes
 train-written h OffsetStart d = refl
 train-written h OffsetAnsw1 d = refl
@@ -75,240 +73,187 @@ train-written h OffsetEnd d = refl
 train-written h LifeSign d = refl
 train-written h TrainData d = refl
 
-train-leaves : (h : Header) (body : Body) (d rest : List ℕ)
-    → let bytes = encode (record { header = h; body = body }) d in trainAt (message (length bytes)) (bytes ++ rest) ≡ trainOf body d
-train-leaves h body d rest =
-    ap trainIn (take-append-seam (encode (record { header = h; body = body }) d) rest) ∙ train-written h body d
-
--- ---- what is taken
-
-taken-else : (event : Event) (n : ℕ) (b : List ℕ) → isData event ≡ false → takenBy event n b ≡ []
-taken-else event n b is = rw is
-
-taken-not : (event : Event) (n : ℕ) (b : List ℕ) → (n ≡ 0 → ⊥) → takenBy event n b ≡ []
-taken-not event n b some =
-    ap (λ (t : Bool). cond (isData event && t) (b ∷ []) []) (ne-eqb n 0 some)
-    ∙ ap (λ (t : Bool). cond t (b ∷ []) []) (and-false (isData event))
-
--- the events that have no user data
-no-data : (event what : Event) → event ≡ what → isData what ≡ false → isData event ≡ false
-no-data event what is none′ = ap isData is ∙ none′
-
--- an event that is only noted takes nothing: it is a tick, or it is not answered 0
-noted-nothing : (e : End) (event : Event) (at : Reading) (answer : Answer) (b : List ℕ) → NoteGrounds e event at answer
-    → takenBy event (numberOf answer) b ≡ []
-noted-nothing e event at answer b why =
-    ⊎-elim (λ tick. taken-else event (numberOf answer) b (no-data event Tick tick refl)) (λ some. taken-not event (numberOf answer) b some)
-    (note-either e event at answer why)
+train-leaves : (m : Letter) (d out : List ℕ) → carriedAt (message (length (encode m d))) (over (encode m d) out) ≡ trainOf (m .body) d
+train-leaves m d out = ap carriedIn (take-append-seam (encode m d) _) ∙ train-written (m .header) (m .body) d
 
 -- ---- one event
 
 -- nothing waits, or the end is Up and a kind 6 has gone in or after the last tick
 abbrev Behind : End → Type 0
-Behind e = (waitingIn (e .ring) ≡ 0) ⊎ ((e .life ≡ Up) × (e .line .spoke ≡ true))
+Behind e = (waitingIn (e .ring) ≡ 0) ⊎ ((e .life ≡ Up) × (e .line .busy ≡ true))
 
 none-wait : (q : List ℕ) (r : Ring) → waitingIn r ≡ 0 → entries q r ≡ []
 none-wait q r is = ap (dataFrom q (r .head)) is
 
--- what waits has one of four moves
-data Flows (x : Entry) : Type 0 where
-  anew : opens x ≡ true → waiting (keptIn (x .result)) ≡ [] → Flows x
-  same : opens x ≡ false → lostIn x ≡ [] → takenIn x ≡ [] → sentIn x ≡ [] → waiting (keptIn (x .result)) ≡ waiting (x .before)
-      → ((x .result .outcome .end .life ≡ Idle → ⊥) → x .before .end .life ≡ Idle → ⊥) → Flows x
-  turn : opens x ≡ false → lostIn x ≡ [] → waiting (x .before) ++ takenIn x ≡ sentIn x ++ waiting (keptIn (x .result))
-      → (x .before .end .life ≡ Idle → ⊥) → Flows x
-  fall : opens x ≡ false → lostIn x ≡ waiting (x .before) → takenIn x ≡ [] → sentIn x ≡ [] → waiting (keptIn (x .result)) ≡ []
-      → x .result .outcome .end .life ≡ Idle → Flows x
+abbrev Alive : End → Type 0
+Alive e = e .life ≡ Idle → ⊥
 
-module _ (e : End) (event : Event) (at : Reading) (b out q : List ℕ) (whole : length q ≡ size) (behind : Behind e) where
+-- what waits goes in one of three ways
+data Flows (x : Entry) : Type 0 where
+  anew : opens (x .result) ≡ true → waiting (keptIn (x .result)) ≡ [] → Flows x
+  still : opens (x .result) ≡ false → lostIn x ≡ [] → handedIn x ≡ [] → sentIn x ≡ [] → waiting (keptIn (x .result)) ≡ waiting (x .before)
+      → (Alive (x .result .outcome .end) → Alive (x .before .end)) → Flows x
+  turns : opens (x .result) ≡ false → waiting (x .before) ++ handedIn x ≡ (sentIn x ++ lostIn x) ++ waiting (keptIn (x .result))
+      → Alive (x .before .end) → (Alive (x .result .outcome .end) → lostIn x ≡ []) → Flows x
+
+module _ (k : Kept) (c : Call) (whole : length (k .queue) ≡ size) (behind : Behind (k .end)) where
+  abbrev e : End
+  e = k .end
+
+  abbrev wait : Lists
+  wait = waiting k
+
   abbrev Flow : Act → Type 0
-  Flow act = Flows (entryWith e event at b out q (resultOf (performed e act at) b out q))
+  Flow act = Flows (entryBy k c act) × Behind (entryBy k c act .result .outcome .end)
+
+  nothing-in : (n : ℕ) → isHandedIn (c .event) n ≡ false → handedBy (c .event) n (c .given) ≡ []
+  nothing-in n is = ap (λ (t : Bool). cond t (c .given ∷ []) []) is
+
+  by-event : (what : Event) (n : ℕ) → c .event ≡ what → handedBy (c .event) n (c .given) ≡ handedBy what n (c .given)
+  by-event what n is = ap (λ (v : Event). handedBy v n (c .given)) is
+
+  -- ---- connections
 
   -- what is lost by going down is all that waits
-  loses : cond (wasUp e) (entries q (e .ring)) [] ≡ entries q (e .ring)
+  loses : cond (wasUp e) wait [] ≡ wait
   loses =
-      ⊎-elim (λ z. by-test (λ (l : List (List ℕ)). l ≡ entries q (e .ring)) (wasUp e) (λ _. refl) (λ _. sym (none-wait q (e .ring) z)))
-      (λ both. ap (λ (t : Bool). cond t (entries q (e .ring)) []) (was-up (e .life) (both .0))) behind
+      ⊎-elim (λ z. by-test (λ (l : Lists). l ≡ wait) (wasUp e) (λ _. refl) (λ _. sym (none-wait (k .queue) (e .ring) z)))
+      (λ both. ap (λ (t : Bool). cond t wait []) (was-up (e .life) (both .0))) behind
 
-  move-flows : (m : Connection) → MoveGrounds e event at b m → Flow (Move m)
-  unfolding performed
-  move-flows Ask g = anew refl (empty-has-none q)
-  move-flows Accept g = anew refl (empty-has-none q)
-  move-flows Lose g = fall refl loses (taken-else event 0 b (no-data event Disconnect (g .0) refl)) refl (empty-has-none q) refl
-  move-flows (Fall answer error) g =
-      let n = fall-between e event at b answer error g in
-      fall refl loses (taken-not event (numberOf answer) b (λ z. omega arith)) refl (empty-has-none q) refl
+  falls : (n : ℕ) → isHandedIn (c .event) n ≡ false
+      → wait ++ handedBy (c .event) n (c .given) ≡ cond (wasUp e) wait [] ++ entries (k .queue) emptyRing
+  falls n none′ =
+      ap (λ (x : Lists). wait ++ x) (nothing-in n none′) ∙ sym (ap₂ (λ (x y : Lists). x ++ y) loses (empty-has-none (k .queue)))
 
-  start-flows : (x : Exchange) → ExchangeGrounds e event at b x → Flow (Start x)
+  move-flows : (m : ConnectionMove) → MoveGrounds e (c .event) (c .at) (c .given) m → Flow (Move m)
   unfolding performed
-  start-flows Begin g =
-      same refl refl (taken-else event 0 b (no-data event Confirm (g .0) refl)) (train-leaves _ OffsetStart [] _) refl
-      (λ _ idle. apart Calling Idle refl (sym (g .2) ∙ idle))
-  start-flows (Greet h) g =
-      same refl refl (taken-else event 0 b (no-data event Message (g .hearing .comes) refl)) (train-leaves _ OffsetAnsw1 [] _) refl
-      (λ _ idle. apart Greeted Idle refl (sym (g .hearing .living) ∙ idle))
-  start-flows (Measure h minimum maximum) g =
-      same refl refl (taken-else event 0 b (no-data event Message (g .0 .hearing .comes) refl)) (train-leaves _ OffsetAnsw2 [] _) refl
-      (λ _ idle. apart Opening Idle refl (sym (g .0 .hearing .living) ∙ idle))
-  start-flows (Estimate h minimum maximum) g =
-      same refl refl (taken-else event 0 b (no-data event Message (g .0 .hearing .comes) refl)) (train-leaves _ (OffsetEst (minimum .0) (maximum .0)) [] _) refl
-      (λ _ idle. apart Answering Idle refl (sym (g .0 .hearing .living) ∙ idle))
-  start-flows (Finish h) g =
-      same refl refl (taken-else event 0 b (no-data event Message (g .2 .hearing .comes) refl)) (train-leaves _ OffsetEnd [] _) refl
-      (λ _ idle. apart Settling Idle refl (sym (g .2 .hearing .living) ∙ idle))
+  move-flows Ask g = (anew refl (empty-has-none (k .queue)), inl refl)
+  move-flows Accept g = (anew refl (empty-has-none (k .queue)), inl refl)
+  move-flows Lose g =
+      (turns refl (falls 0 (ap (λ (v : Event). isHandedIn v 0) (g .0))) (g .1) (λ living. absurd (living refl)), inl refl)
+  move-flows (Fall a error) g =
+      let refused = fall-refused e (c .event) (c .at) (c .given) a error g in (
+        turns refl (falls (numberOf a) (refused-brings (c .event) (numberOf a) refused .1)) (fall-awake e (c .event) (c .at) (c .given) a error g)
+            (λ living. absurd (living refl)),
+        inl refl,
+      )
+
+  -- ---- messages of the start
+
+  -- no data are handed in, none are carried, and none wait
+  begins : {A B : Type 0} (x : Exchange) → ExchangeGrounds e (c .event) (c .at) (c .given) x → (Alive e → A) → A × ((waitingIn (e .ring) ≡ 0) ⊎ B)
+  begins x g so = (
+    so (exchange-awake e (c .event) (c .at) (c .given) x g),
+    inl (⊎-elim (λ z. z) (λ both. absurd (exchange-low e (c .event) (c .at) (c .given) x g (both .0))) behind),
+  )
+
+  start-flows : (x : Exchange) → ExchangeGrounds e (c .event) (c .at) (c .given) x → Flow (Start x)
+  unfolding performed
+  start-flows (Begin goes) g =
+      begins (Begin goes) g (λ alive. still refl refl (by-event Confirm 0 (g .0 .comes))
+      (train-leaves _ [] _ ∙ ap (λ (y : Body). trainOf y []) (g .2)) refl (λ _. alive))
+  start-flows (Greet s) g =
+      begins (Greet s) g (λ alive. still refl refl (by-event Message 0 (g .2 .hearing .comes))
+      (train-leaves _ [] _ ∙ ap (λ (y : Swap). trainOf (y .goes) []) (g .1)) refl (λ _. alive))
+  start-flows (Measure m) g =
+      begins (Measure m) g (λ alive. still refl refl (by-event Message 0 (g .2 .hearing .comes))
+      (train-leaves _ [] _ ∙ ap (λ (y : Measurement). trainOf (y .swap .goes) []) (g .1)) refl (λ _. alive))
+  start-flows (Estimate m) g =
+      begins (Estimate m) g (λ alive. still refl refl (by-event Message 0 (g .2 .hearing .comes))
+      (train-leaves _ [] _ ∙ ap (λ (y : Measurement). trainOf (y .swap .goes) []) (g .1)) refl (λ _. alive))
+  start-flows (Finish s) g =
+      begins (Finish s) g (λ alive. still refl refl (by-event Message 0 (g .4 .hearing .comes))
+      (train-leaves _ [] _ ∙ ap (λ (y : Swap). trainOf (y .goes) []) (g .3)) refl (λ _. alive))
   start-flows (Rise h) g =
-      same refl refl (taken-else event 0 b (no-data event Message (g .hearing .comes) refl)) refl refl
-      (λ _ idle. apart Closing Idle refl (sym (g .hearing .living) ∙ idle))
+      begins (Rise h) g (λ alive. still refl refl (by-event Message 0 (g .hearing .comes)) refl refl (λ _. alive))
 
-  hear-flows : (v : Verdict) → VerdictGrounds e event at b v → Flow (Hear v)
+  -- ---- while Up
+
+  -- a delivery sends nothing and leaves the queue
+  hands-out : (train : Bool) → let p = delivering train in
+      (carriedAt (frontAfter p (c .given) (k .queue)) (outAfter p (c .given) (k .queue) (c .out)) ≡ [])
+      × (entries (queueAfter p (c .given) (k .queue)) (e .ring) ≡ wait)
+  hands-out true = (refl, refl)
+  hands-out false = (refl, refl)
+
+  hear-flows : (v : Verdict) → VerdictGrounds e (c .event) (c .at) (c .given) v → Flow (Hear v)
   unfolding performed
-  hear-flows (Deliver h true gap) g = same refl refl (taken-else event (numberOf (deliveredAnswer gap)) b (no-data event Message (g .0 .comes) refl)) refl refl (λ alive. alive)
-  hear-flows (Deliver h false gap) g = same refl refl (taken-else event (numberOf (deliveredAnswer gap)) b (no-data event Message (g .0 .comes) refl)) refl refl (λ alive. alive)
-  hear-flows (Report answer failures) g =
-      same refl refl (taken-else event (numberOf answer) b (no-data event Message (failure-comes e event at b answer (g .0) .0) refl)) refl refl (λ alive. alive)
-
-  -- ---- sending while Up
-
-  is-up : e .life ≡ Up → e .life ≡ Idle → ⊥
-  is-up up idle = apart Up Idle refl (sym up ∙ idle)
+  hear-flows (Deliver d) g =
+      let so = hands-out (d .train) in
+      let none = by-event Message (numberOf (deliveredAnswer (hasGap d))) (g .0 .comes) in
+      (still refl refl none (so .0) (so .1) (λ alive. alive), behind)
+  hear-flows (Report a failures) g =
+      let none = by-event Message (numberOf a) (failure-comes e (c .event) (c .at) (c .given) a (g .0) .0) in
+      (still refl refl none refl refl (λ alive. alive), behind)
 
   -- data go at once only when none wait
-  ahead : e .line .spoke ≡ false → entries q (e .ring) ≡ []
-  ahead quiet = ⊎-elim (λ z. none-wait q (e .ring) z) (λ both. absurd (false≢true (sym quiet ∙ both .1))) behind
+  ahead : e .line .busy ≡ false → wait ≡ []
+  ahead quiet = ⊎-elim (λ z. none-wait (k .queue) (e .ring) z) (λ both. absurd (false≢true (sym quiet ∙ both .1))) behind
 
-  takes-it : event ≡ Data → takenBy event 0 b ≡ b ∷ []
-  takes-it is = ap (λ (v : Event). takenBy v 0 b) is
-
-  joins : SpeechGrounds e event at b Hold → entries (putBytes q (e .ring) b) (longer (e .ring)) ≡ entries q (e .ring) ++ (b ∷ [])
-  joins g =
-      let both = and-eq-true-iff (leb 1 (length b)) (leb (length b) longest) .0 (g .1) in
-      let fits = and-eq-true-iff (ltb (waitingIn (e .ring)) places) (leb 1 (length b) && leb (length b) longest) .1 (g .3, g .1) in
-      let held : putRing (e .ring) b ≡ longer (e .ring) = rw fits in
-      subst (λ (r : Ring). entries (putBytes q (e .ring) b) r ≡ entries q (e .ring) ++ (b ∷ [])) held
-      (put-comes-last q (e .ring) b whole (ltb-true (waitingIn (e .ring)) places (g .3))
-      (leb-true 1 (length b) (both .0), leb-true (length b) longest (both .1)))
-
-  some-count : (waitingIn (e .ring) ≡ 0 → ⊥) → 0 < e .ring .count
-  some-count some = omega arith
-
-  say-flows : (s : Speech) → SpeechGrounds e event at b s → Flow (Say s)
+  say-flows : (s : Speech) → SpeechGrounds e (c .event) (c .at) (c .given) s → Flow (Say s)
   unfolding performed
-  say-flows Quiet g = same refl refl (taken-else event 0 b (no-data event Tick (g .0 .comes) refl)) refl refl (λ alive. alive)
+  say-flows Quiet g = (still refl refl (by-event Tick 0 (g .0 .comes)) refl refl (λ alive. alive), inl (g .1))
   say-flows Beat g =
-      same refl refl (taken-else event 0 b (no-data event Tick (g .0 .comes) refl)) (train-leaves _ LifeSign [] _) refl (λ alive. alive)
-  say-flows Speak g =
-      turn refl refl
-      (ap₂ (λ (x y : List (List ℕ)). x ++ y) (ahead (g .2)) (takes-it (g .0 .comes))
-      ∙ sym (ap₂ (λ (x y : List (List ℕ)). x ++ y) (train-leaves _ TrainData b _) (ahead (g .2))))
-      (is-up (g .0 .living))
-  say-flows Drain g =
-      turn refl refl
-      (ap (λ (x : List (List ℕ)). entries q (e .ring) ++ x) (taken-else event 0 b (no-data event Tick (g .0 .comes) refl))
-      ∙ append-nil (entries q (e .ring))
-      ∙ takes-first q (e .ring) (some-count (g .1))
-      ∙ sym (ap (λ (x : List (List ℕ)). x ++ entries q (takenFrom (e .ring))) (train-leaves _ TrainData (oldestIn q (e .ring)) _)))
-      (is-up (g .0 .living))
-  say-flows Hold g =
-      turn refl refl (ap (λ (x : List (List ℕ)). entries q (e .ring) ++ x) (takes-it (g .0 .comes)) ∙ sym (joins g)) (is-up (g .0 .living))
+      (still refl refl (by-event Tick 0 (g .0 .comes)) (train-leaves _ [] _) refl (λ alive. alive), inr (g .0 .living, refl))
+  say-flows Speak g = (
+    turns refl
+        (ap₂ (λ (x y : Lists). x ++ y) (ahead (g .2)) (by-event Data 0 (g .0 .comes))
+        ∙ sym (ap₂ (λ (x y : Lists). (x ++ []) ++ y) (train-leaves _ (c .given) _) (ahead (g .2))))
+        (up-awake (e .life) (g .0 .living)) (λ _. refl),
+    inr (g .0 .living, refl),
+  )
+  say-flows Drain g = (
+    turns refl
+        (ap (λ (x : Lists). wait ++ x) (by-event Tick 0 (g .0 .comes))
+        ∙ append-nil wait
+        ∙ drains-first e (c .event) (c .at) (c .given) (k .queue) g
+        ∙ sym (ap (λ (x : Lists). (x ++ []) ++ entries (k .queue) (withoutOldest (e .ring))) (train-leaves _ (oldestIn (k .queue) (e .ring)) _)))
+        (up-awake (e .life) (g .0 .living)) (λ _. refl),
+    inr (g .0 .living, refl),
+  )
+  say-flows Hold g = (
+    turns refl
+        (ap (λ (x : Lists). wait ++ x) (by-event Data 0 (g .0 .comes))
+        ∙ sym (holds-last e (c .event) (c .at) (c .given) (k .queue) whole g))
+        (up-awake (e .life) (g .0 .living)) (λ _. refl),
+    inr (g .0 .living, g .2),
+  )
 
-  taken-flows : (act : Act) → Grounded e event at act → Taken e event at b act → Flow act
+  -- ---- any event
+
+  flows : Flows (record { before = k; call = c; result = cameTo k c }) × Behind (cameTo k c .outcome .end)
   unfolding performed
-  taken-flows (Stay answer) why g = absurd g
-  taken-flows (Note answer) why g = same refl refl (noted-nothing e event at answer b why) refl refl (λ alive. alive)
-  taken-flows (Move m) why g = move-flows m g
-  taken-flows (Start x) why g = start-flows x g
-  taken-flows (Hear v) why g = hear-flows v g
-  taken-flows (Say s) why g = say-flows s g
-
-  stay-flows : (answer : Answer) → (numberOf answer ≡ 0 → ⊥) → Flow (Stay answer)
-  unfolding performed
-  stay-flows answer some = same refl refl (taken-not event (numberOf answer) b some) refl refl (λ alive. alive)
-
-  act-flows : (act : Act) → Grounded e event at act → Decided e event at b (length out) act → Flow act
-  act-flows act why (no-room short is) = subst Flow (sym is) (stay-flows noRoom (λ z. omega arith))
-  act-flows act why (went-back fits back is) = subst Flow (sym is) (stay-flows clockBack (λ z. omega arith))
-  act-flows act why (taken fits forth g) = taken-flows act why g
-
-  -- ---- and nothing waits but behind a kind 6
-
-  abbrev Stays : Act → Type 0
-  Stays act = Behind (performed e act at .end)
-
-  -- in a starting state nothing waits
-  not-up : (l : Life) → e .life ≡ l → (l ≡ Up → ⊥) → waitingIn (e .ring) ≡ 0
-  not-up l is other = ⊎-elim (λ z. z) (λ both. absurd (other (sym is ∙ both .0))) behind
-
-  taken-stays : (act : Act) → Taken e event at b act → Stays act
-  unfolding performed
-  taken-stays (Stay answer) g = absurd g
-  taken-stays (Note answer) g = behind
-  taken-stays (Move Ask) g = inl refl
-  taken-stays (Move Accept) g = inl refl
-  taken-stays (Move Lose) g = inl refl
-  taken-stays (Move (Fall answer error)) g = inl refl
-  taken-stays (Start Begin) g = inl (not-up Calling (g .2) (apart Calling Up refl))
-  taken-stays (Start (Greet h)) g = inl (not-up Greeted (g .hearing .living) (apart Greeted Up refl))
-  taken-stays (Start (Measure h minimum maximum)) g = inl (not-up Opening (g .0 .hearing .living) (apart Opening Up refl))
-  taken-stays (Start (Estimate h minimum maximum)) g = inl (not-up Answering (g .0 .hearing .living) (apart Answering Up refl))
-  taken-stays (Start (Finish h)) g = inl (not-up Settling (g .2 .hearing .living) (apart Settling Up refl))
-  taken-stays (Start (Rise h)) g = inl (not-up Closing (g .hearing .living) (apart Closing Up refl))
-  taken-stays (Hear (Deliver h train gap)) g = behind
-  taken-stays (Hear (Report answer failures)) g = behind
-  taken-stays (Say Quiet) g = inl (g .1)
-  taken-stays (Say Beat) g = inr (g .0 .living, refl)
-  taken-stays (Say Speak) g = inr (g .0 .living, refl)
-  taken-stays (Say Drain) g = inr (g .0 .living, refl)
-  taken-stays (Say Hold) g = inr (g .0 .living, g .2)
-
-  stay-stays : (answer : Answer) → Stays (Stay answer)
-  unfolding performed
-  stay-stays answer = behind
-
-  act-stays : (act : Act) → Decided e event at b (length out) act → Stays act
-  act-stays act (no-room short is) = subst Stays (sym is) (stay-stays noRoom)
-  act-stays act (went-back fits back is) = subst Stays (sym is) (stay-stays clockBack)
-  act-stays act (taken fits forth g) = taken-stays act g
-
-  step-flows : Flows (entryWith e event at b out q (stepped e event at b out q))
-  unfolding stepped effectOf
-  step-flows =
-      act-flows (decideOf e event at b (length out)) (noted e event at b (length out)) (decided e event at b (length out))
-
-  step-stays : Behind (stepped e event at b out q .outcome .end)
-  unfolding stepped effectOf
-  step-stays = act-stays (decideOf e event at b (length out)) (decided e event at b (length out))
+  flows =
+      by-call k c (λ (x : Entry). Flows x × Behind (x .result .outcome .end))
+      (λ a g. let none = refused-brings (c .event) (numberOf a) (stay-refused e (c .event) (c .at) (c .given) (length (c .out)) a g) .1 in
+      (still refl refl (nothing-in (numberOf a) none) refl refl (λ alive. alive), behind))
+      (λ _. record {
+        notes = λ a g. let none = note-brings e (c .event) (c .at) (c .given) a g .1 in
+            (still refl refl (nothing-in (numberOf a) none) refl refl (λ alive. alive), behind);
+        moves = move-flows;
+        starts = start-flows;
+        hears = hear-flows;
+        says = say-flows;
+      })
 
 -- ---- every run
 
-abbrev Lists : Type 0
-Lists = List (List ℕ)
+-- handed in, sent, lost and waiting in one connection, and nothing lost before Idle
+record Ordered (e : End) (q : List ℕ) (gone sent lost : Lists) : Type 0 where
+  order : gone ≡ sent ++ (lost ++ entries q (e .ring))
+  kept : Alive e → lost ≡ []
 
--- taken, sent, lost and waiting in one connection, and nothing lost before Idle
-pub record Ordered (e : End) (q : List ℕ) (gone sent lost : Lists) : Type 0 where
-  pub order : gone ≡ sent ++ (lost ++ entries q (e .ring))
-  pub kept : (e .life ≡ Idle → ⊥) → lost ≡ []
-
--- four lists that stay in order when one moves on
-moves-on : (sent lost wait more said rest : Lists) → lost ≡ [] → wait ++ more ≡ said ++ rest
-    → (sent ++ (lost ++ wait)) ++ more ≡ (sent ++ said) ++ ((lost ++ []) ++ rest)
-moves-on sent lost wait more said rest none′ is =
-    ap (λ (l : Lists). (sent ++ (l ++ wait)) ++ more) none′
-    ∙ append-assoc sent wait more
-    ∙ ap (λ (l : Lists). sent ++ l) is
-    ∙ sym (append-assoc sent said rest)
-    ∙ ap (λ (l : Lists). (sent ++ said) ++ ((l ++ []) ++ rest)) (sym none′)
-
-goes-down : (sent lost wait : Lists) → (sent ++ (lost ++ wait)) ++ [] ≡ (sent ++ []) ++ ((lost ++ wait) ++ [])
-goes-down sent lost wait =
-    append-nil (sent ++ (lost ++ wait)) ∙ ap₂ (λ (x y : Lists). x ++ y) (sym (append-nil sent)) (sym (append-nil (lost ++ wait)))
+-- lists that stay in order when some move on
+moves-on : (sent lost wait more said gone rest : Lists) → lost ≡ [] → wait ++ more ≡ (said ++ gone) ++ rest
+    → (sent ++ (lost ++ wait)) ++ more ≡ (sent ++ said) ++ ((lost ++ gone) ++ rest)
+moves-on sent lost wait more said gone rest none′ is =
+    rw none′ (append-assoc sent wait more ∙ ap (λ (l : Lists). sent ++ l) is ∙ simp append-assoc)
 
 stands-still : (sent lost wait : Lists) → (sent ++ (lost ++ wait)) ++ [] ≡ (sent ++ []) ++ ((lost ++ []) ++ wait)
-stands-still sent lost wait =
-    append-nil (sent ++ (lost ++ wait))
-    ∙ ap₂ (λ (x y : Lists). x ++ (y ++ wait)) (sym (append-nil sent)) (sym (append-nil lost))
+stands-still sent lost wait = simp append-nil
 
 module _ (x : Entry) (xs : List Entry)
-    (before : Ordered (x .before .end) (x .before .queue) (inConnection takenIn xs) (inConnection sentIn xs) (inConnection lostIn xs)) where
+    (before : Ordered (x .before .end) (x .before .queue) (inConnection handedIn xs) (inConnection sentIn xs) (inConnection lostIn xs)) where
   abbrev sent : Lists
   sent = inConnection sentIn xs
 
@@ -316,26 +261,22 @@ module _ (x : Entry) (xs : List Entry)
   lost = inConnection lostIn xs
 
   next-ordered : Flows x
-      → Ordered (x .result .outcome .end) (x .result .queue) (inConnection takenIn (x ∷ xs)) (inConnection sentIn (x ∷ xs)) (inConnection lostIn (x ∷ xs))
+      → Ordered (x .result .outcome .end) (x .result .queue) (inConnection handedIn (x ∷ xs)) (inConnection sentIn (x ∷ xs)) (inConnection lostIn (x ∷ xs))
   unfolding inConnection
   next-ordered (anew begins none′) = rw begins (record { order = sym none′; kept = λ _. refl })
-  next-ordered (same goes-on high none′ silent wait alive) =
+  next-ordered (still goes-on high none′ silent wait alive) =
       rw (goes-on, high, none′, silent)
       (record {
-        order = ap (λ (l : Lists). l ++ []) (before .order) ∙ stands-still sent lost (waiting (x .before)) ∙ ap (λ (l : Lists). (sent ++ []) ++ ((lost ++ []) ++ l)) (sym wait);
+        order = ap (λ (l : Lists). l ++ []) (before .order) ∙ stands-still sent lost (waiting (x .before))
+            ∙ ap (λ (l : Lists). (sent ++ []) ++ ((lost ++ []) ++ l)) (sym wait);
         kept = λ living. append-nil lost ∙ before .kept (alive living);
       })
-  next-ordered (turn goes-on high is alive) =
-      rw (goes-on, high)
+  next-ordered (turns goes-on is alive falls) =
+      rw goes-on
       (record {
-        order = ap (λ (l : Lists). l ++ takenIn x) (before .order) ∙ moves-on sent lost (waiting (x .before)) (takenIn x) (sentIn x) (waiting (keptIn (x .result))) (before .kept alive) is;
-        kept = λ living. append-nil lost ∙ before .kept alive;
-      })
-  next-ordered (fall goes-on all none′ silent wait idle) =
-      rw (goes-on, all, none′, silent)
-      (record {
-        order = ap (λ (l : Lists). l ++ []) (before .order) ∙ goes-down sent lost (waiting (x .before)) ∙ ap (λ (l : Lists). (sent ++ []) ++ ((lost ++ waiting (x .before)) ++ l)) (sym wait);
-        kept = λ living. absurd (living idle);
+        order = ap (λ (l : Lists). l ++ handedIn x) (before .order)
+            ∙ moves-on sent lost (waiting (x .before)) (handedIn x) (sentIn x) (lostIn x) (waiting (keptIn (x .result))) (before .kept alive) is;
+        kept = λ living. ap₂ (λ (y z : Lists). y ++ z) (before .kept alive) (falls living);
       })
 
 module _ (m : Making) (sound : Sound m) where
@@ -345,18 +286,14 @@ module _ (m : Making) (sound : Sound m) where
   run-behind : (cs : List Call) → Behind (after m cs .end)
   unfolding after
   run-behind [] = inl refl
-  run-behind (c ∷ cs) =
-      let k = after m cs in
-      step-stays (k .end) (c .event) (c .at) (c .given) (c .out) (k .queue) (whole cs) (run-behind cs)
+  run-behind (c ∷ cs) = flows (after m cs) c (whole cs) (run-behind cs) .1
 
   run-ordered : (cs : List Call)
-      → Ordered (after m cs .end) (after m cs .queue) (inConnection takenIn (history m cs)) (inConnection sentIn (history m cs)) (inConnection lostIn (history m cs))
+      → Ordered (after m cs .end) (after m cs .queue) (inConnection handedIn (history m cs)) (inConnection sentIn (history m cs)) (inConnection lostIn (history m cs))
   unfolding after history inConnection
   run-ordered [] = record { order = refl; kept = λ _. refl }
   run-ordered (c ∷ cs) =
-      let k = after m cs in
-      next-ordered (entryOf m cs c) (history m cs) (run-ordered cs)
-      (step-flows (k .end) (c .event) (c .at) (c .given) (c .out) (k .queue) (whole cs) (run-behind cs))
+      next-ordered (entryOf m cs c) (history m cs) (run-ordered cs) (flows (after m cs) c (whole cs) (run-behind cs) .0)
 
 pub sending : Sending
 sending m sound cs = run-ordered m sound cs .order

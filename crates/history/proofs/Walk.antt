@@ -1,156 +1,200 @@
--- The one walk through the acts: every event shows one of the cases of proofs/Shown.antt.
-use Prim.Native.Nat.{ℕ, _+_}
-use mathlib.Core.Bool.{Bool, true, false, not, _||_, _&&_}
-use mathlib.Core.List.{List}
+-- Every event shows what proofs/Shown.antt says, whatever its act.
+use Prim.Native.Nat.{ℕ, _+_, _≤_}
+use native.Mathlib.Omega.{arith}
+use mathlib.Core.Bool.{Bool, true, false, not, _&&_}
+use mathlib.Core.List.{List, []}
+use mathlib.Core.Logic.{⊎-elim}
 use mathlib.Core.Path.{_≡_, refl, sym, ap, subst, _∙_}
-use borrow.Author.Tests.{le-leb}
-use lib.Dec.{leb, ltb, eqb}
-use lib.ListN.{length}
-use Rattle.judge.specs.declared.clock.Reading.{Reading}
-use Rattle.wire.specs.Message.{encode, headerBytes}
-use Rattle.rules.proofs.Decided.{decided}
-use Rattle.rules.proofs.Grounds.{Decided, Taken, MoveGrounds, ExchangeGrounds, VerdictGrounds, SpeechGrounds, Failure, Fallen, notes}
-use Rattle.rules.proofs.Grounds.Decided.{no-room, went-back, taken}
-use Rattle.rules.proofs.Grounds.Failure.{is-old, is-late}
-use Rattle.rules.proofs.Grounds.Fallen.{by-silence, by-start, by-loss, by-failure}
-use Rattle.rules.specs.Answers.{numberOf}
-use Rattle.rules.specs.Rules.{decideOf}
+use borrow.Author.Tests.{ltb-true, ltb-false, eqb-false, le-leb, ne-eqb}
+use lib.Dec.{eqb}
+use lib.ListN.{length, getD}
+use Rattle.wire.specs.Message.{encode, headerBytes, kindOf}
+use Rattle.wire.specs.declared.message.Message.{Message}
+use Rattle.wire.specs.Writing.{over}
+use Rattle.wire.specs.declared.message.Body.{Body}
+use Rattle.wire.proofs.Tests.{by-test}
+use Rattle.rules.specs.Answers.{Leaving, numberOf, leavesOf}
+use Rattle.rules.specs.Answers.Leaving.{as-ruled, new-reading}
+use Rattle.rules.specs.Ends.{noFlags, upFlag, wasUp}
+use Rattle.rules.specs.Perform.{performed}
+use Rattle.rules.specs.Place.{outAfter, frontAfter}
+use Rattle.rules.specs.State.{isUp}
 use Rattle.rules.specs.declared.answer.Answer.{Answer}
-use Rattle.rules.specs.declared.answer.Answer.the-variants.{ClockBack, NoRoom}
-use Rattle.rules.specs.declared.act.Event.{Event}
+use Rattle.rules.specs.declared.answer.Answer.the-variants.{Handled, ClockBack, NoRoom}
 use Rattle.rules.specs.declared.act.Act.{Act}
 use Rattle.rules.specs.declared.act.Act.the-variants.{Stay, Note, Move, Start, Hear, Say}
-use Rattle.rules.specs.declared.act.Connection.{Connection}
-use Rattle.rules.specs.declared.act.Connection.the-variants.{Ask, Accept, Lose, Fall}
+use Rattle.rules.specs.declared.act.Event.{Event}
+use Rattle.rules.specs.declared.act.ConnectionMove.{ConnectionMove}
+use Rattle.rules.specs.declared.act.ConnectionMove.the-variants.{Ask, Accept, Lose, Fall}
 use Rattle.rules.specs.declared.act.Exchange.{Exchange}
 use Rattle.rules.specs.declared.act.Exchange.the-variants.{Begin, Greet, Measure, Estimate, Finish, Rise}
+use Rattle.rules.specs.declared.act.Measurement.{Measurement}
+use Rattle.rules.specs.declared.act.Swap.{Swap}
 use Rattle.rules.specs.declared.act.Verdict.{Verdict}
 use Rattle.rules.specs.declared.act.Verdict.the-variants.{Deliver, Report}
 use Rattle.rules.specs.declared.act.Speech.{Speech}
 use Rattle.rules.specs.declared.act.Speech.the-variants.{Quiet, Beat, Speak, Drain, Hold}
 use Rattle.rules.specs.declared.state.End.{End}
-use Rattle.link.specs.Perform.{performed, wasUp}
-use Rattle.link.specs.Step.{resultOf, effectOf, stepped}
-use Rattle.history.specs.Run.{Kept, Call, cameTo}
-use Rattle.history.specs.Events.{isTick, isDropped}
-use Rattle.history.proofs.Choices.{and-false, not-true, or-left}
-use Rattle.history.proofs.Lives.{only-up}
-use Rattle.history.proofs.Noted.{NoteGrounds, Grounded, noted, note-low, noted-no-tick, noted-unheard}
-use Rattle.history.proofs.Shown.{Resting, Walk, snapOf}
-use Rattle.history.proofs.Shown.Walk.{rests, asks, answers-call, is-left, fails-start, loses, waited, gives-up, starts, rises, delivers, reports, is-quiet, beats, says, holds}
+use Rattle.rules.specs.declared.effect.Flags.{Flags}
+use Rattle.rules.specs.declared.effect.Placing.{Placing}
+use Rattle.rules.specs.declared.effect.Front.the-variants.{Message as leaves}
+use Rattle.rules.specs.declared.state.Life.{Life}
+use Rattle.rules.specs.declared.state.Life.the-variants.{Calling, Opening, Settling, Greeted, Answering, Closing}
+use Rattle.rules.proofs.Answered.{note-leaves, failure-leaves, failure-comes}
+use Rattle.rules.proofs.Grounds.{NoteGrounds, MoveGrounds, ExchangeGrounds, VerdictGrounds, SpeechGrounds, StayGrounds, Fallen}
+use Rattle.rules.proofs.Grounds.Fallen.{by-silence, by-start, by-loss, by-failure}
+use Rattle.rules.proofs.Grounds.StayGrounds.{no-room, went-back}
+use Rattle.rules.proofs.Lives.{was-up, only-up}
+use Rattle.run.specs.Run.{Call, Kept, Entry, cameTo}
+use Rattle.run.specs.Events.{isTick, isDropped, isYes, isAcceptance}
+use Rattle.run.proofs.Brought.{no-delivery, refused-brings, note-brings, failure-refused}
+use Rattle.run.proofs.Calls.{entryBy, by-call}
+use Rattle.run.proofs.Choices.{never, not-true, and-false}
+use Rattle.run.proofs.Noted.{note-sort, sort-few, sort-tick}
+use Rattle.history.specs.Seen.{Seen, seenOf}
+use Rattle.history.specs.Reports.{isOfUp}
+use Rattle.history.specs.LifeSigns.{speaks, kindAt}
+use Rattle.history.proofs.Shown.{Shown, Calm, Marks, snap, snapOf, sight, marks-on, keeps, clears, rises, delivers, fails}
 
--- ---- events that leave nothing
+-- the first byte of a message that leaves
+kind-sent : (m : Message) (d out : List ℕ) → getD (over (encode m d) out) 0 0 ≡ kindOf (m .body)
+unfolding encode headerBytes
+kind-sent m d out = refl
 
-note-rests : (e : End) (event : Event) (at : Reading) (a : Answer) → notes a ≡ true → NoteGrounds e event at a → Resting event (numberOf a) (wasUp e)
-note-rests e event at a t why =
-    record {
-      low = or-left (leb (numberOf a) 7) (eqb (numberOf a) 14) (le-leb (numberOf a) 7 (note-low a t));
-      unheard = λ is. noted-unheard e event at a why (only-up (e .life) is);
-      unticked = λ is. rw (noted-no-tick e event at a why (only-up (e .life) is));
-    }
+-- an answer of at most 7 is none that only an Up end gives
+few-of-up : (n : ℕ) → n ≤ 7 → isOfUp n ≡ false
+few-of-up n few =
+    simp (ne-eqb n 9 (λ z. omega arith), ne-eqb n 10 (λ z. omega arith), ne-eqb n 11 (λ z. omega arith), ne-eqb n 13 (λ z. omega arith))
 
--- an event that is dropped begins nothing
-dropped-rests : (event : Event) (up : Bool) (n : ℕ) → leb n 7 || eqb n 14 ≡ true → eqb n 0 ≡ false → isDropped n ≡ true → Resting event n up
-dropped-rests event up n low some is =
-    record { low = low; unheard = λ _. some; unticked = λ _. ap (λ (t : Bool). isTick event && not t) is ∙ and-false (isTick event) }
+calm-by : (a : Answer) (x : Leaving) → leavesOf a ≡ x → Calm x → Calm (leavesOf a)
+calm-by a x is so = subst Calm (sym is) so
 
--- ---- each act
+module _ (k : Kept) (c : Call) where
+  abbrev e : End
+  e = k .end
 
-module _ (e : End) (event : Event) (at : Reading) (b out q : List ℕ) where
   abbrev Shows : Act → Type 0
-  Shows act = Walk (snapOf e event (resultOf (performed e act at) b out q))
+  Shows act = Shown (snapOf (entryBy k c act))
 
-  fall-shows : (answer : Answer) (error : Bool) → Fallen e event at b answer error → Shows (Move (Fall answer error))
+  -- ---- nothing changes but perhaps the reading
+
+  rests : (a : Answer) → Calm (leavesOf a) → isOfUp (numberOf a) ≡ false → isAcceptance (c .event) (numberOf a) ≡ false
+      → (wasUp e ≡ true → isTick (c .event) && not (isDropped (numberOf a)) ≡ false) → Shows (Note a)
   unfolding performed
-  fall-shows answer error (by-silence is quiet over alive) =
-      rw (is, quiet) (waited event (wasUp e) (e .line .failures) (e .line .spoke) (e .settings .errors))
-  fall-shows answer error (by-start life h body is quiet idle up next) =
-      rw (is, quiet, next .hearing .comes, next .hearing .living, not-true _ (λ t. up (only-up life t)))
-      (fails-start (e .line .failures) (e .line .spoke) (e .settings .errors))
-  fall-shows answer error (by-loss h train is quiet hears class) =
-      rw (is, quiet, hears .comes, hears .living) (loses (e .line .failures) (e .line .spoke) (e .settings .errors))
-  fall-shows answer error (by-failure loud (is-old h train is hears class) full) =
-      rw (is, loud, hears .comes, hears .living) (gives-up false (e .line .failures) (e .line .spoke) (e .settings .errors) full)
-  fall-shows answer error (by-failure loud (is-late h train gap is hears class stale) full) =
-      rw (is, loud, hears .comes, hears .living) (gives-up true (e .line .failures) (e .line .spoke) (e .settings .errors) full)
+  rests a calm any unheard unticked =
+      keeps refl calm any (no-delivery (wasUp e) (c .event) (numberOf a) unheard) refl (never _ refl)
+      (marks-on (seenOf (entryBy k c (Note a))) (e .line .busy) (wasUp e) refl unticked)
 
-  move-shows : (m : Connection) → MoveGrounds e event at b m → Shows (Move m)
+  dropped : (a : Answer) → Calm (leavesOf a) → isOfUp (numberOf a) ≡ false → isYes (numberOf a) ≡ false → isDropped (numberOf a) ≡ true
+      → Shows (Note a)
+  dropped a calm any refused drop =
+      rests a calm any (refused-brings (c .event) (numberOf a) refused .0)
+      (λ _. ap (λ (t : Bool). isTick (c .event) && not t) drop ∙ and-false (isTick (c .event)))
+
+  stay-shows : (a : Answer) → StayGrounds e (c .event) (c .at) (c .given) (length (c .out)) a → Shows (Stay a)
   unfolding performed
-  move-shows Ask g = rw (g .0, g .1) (asks (e .line .failures) (e .line .spoke) (e .settings .errors))
-  move-shows Accept g = rw (g .0) (answers-call (wasUp e) (e .line .failures) (e .line .spoke) (e .settings .errors))
-  move-shows Lose g = rw (g .0) (is-left (wasUp e) (e .line .failures) (e .line .spoke) (e .settings .errors))
-  move-shows (Fall answer error) g = fall-shows answer error g
+  stay-shows a (no-room is short) = rw is (dropped NoRoom (refl, refl, λ _. refl) refl refl refl)
+  stay-shows a (went-back is fits back) = rw is (dropped ClockBack (refl, refl, λ _. refl) refl refl refl)
 
-  start-shows : (x : Exchange) → ExchangeGrounds e event at b x → Shows (Start x)
+  note-shows : (a : Answer) → NoteGrounds e (c .event) (c .at) (c .given) a → Shows (Note a)
+  note-shows a g =
+      let sort = note-sort e (c .event) (c .at) (c .given) a g in
+      rests a
+      (⊎-elim (λ is. calm-by a as-ruled is (refl, refl, λ _. refl)) (λ is. calm-by a new-reading is (refl, refl, λ _. refl))
+      (note-leaves e (c .event) (c .at) (c .given) a g))
+      (few-of-up (numberOf a) (sort-few e (c .event) (c .at) (c .given) (numberOf a) sort))
+      (note-brings e (c .event) (c .at) (c .given) a g .0)
+      (λ up. ap (λ (t : Bool). t && not (isDropped (numberOf a)))
+      (not-true (isTick (c .event)) (λ t. sort-tick e (c .event) (c .at) (c .given) (numberOf a) sort t .0 (only-up (e .life) up))))
+
+  -- ---- connections
+
+  fall-shows : (a : Answer) (error : Bool) → Fallen e (c .event) (c .at) (c .given) a error → Shows (Move (Fall a error))
+  unfolding performed
+  fall-shows a error (by-silence is quiet over alive sort) =
+      rw (is, quiet) (clears refl (never _ refl) (never _ refl) refl refl (λ _. refl))
+  fall-shows a error (by-start life h body is quiet low next kind wrong) =
+      rw (is, quiet) (clears refl (never _ refl) (never _ refl) refl refl (λ _. refl))
+  fall-shows a error (by-loss h train is quiet hears class) =
+      rw (is, quiet) (clears refl (λ _. was-up (e .life) (hears .living)) (never _ refl) refl refl (λ _. refl))
+  fall-shows a error (by-failure loud why full) =
+      let up = was-up (e .life) (failure-comes e (c .event) (c .at) (c .given) a why .2) in
+      let leaves = failure-leaves e (c .event) (c .at) (c .given) a why in
+      let most : e .settings .errors ≤ e .line .failures + 1 = ltb-false (e .line .failures + 1) (e .settings .errors) full in
+      rw loud (clears refl (λ _. up) (λ _. up) (rw leaves refl) (rw leaves (sym (le-leb (e .settings .errors) _ most))) (λ _. refl))
+
+  move-shows : (m : ConnectionMove) → MoveGrounds e (c .event) (c .at) (c .given) m → Shows (Move m)
+  unfolding performed
+  move-shows Ask g = rw (g .1) (clears refl (λ t. t) (λ t. t) refl refl (never _ refl))
+  move-shows Accept g = clears refl (never _ refl) (never _ refl) refl refl (never _ refl)
+  move-shows Lose g = clears refl (never _ refl) (never _ refl) refl refl (never _ refl)
+  move-shows (Fall a error) g = fall-shows a error g
+
+  -- ---- messages of the start
+
+  -- what is seen of a message that leaves
+  abbrev sent : Message → List ℕ → Flags → Seen
+  sent m d flags = sight (c .event) Handled flags (leaves (length (encode m d))) (over (encode m d) (c .out))
+
+  silent : (m : Message) (d : List ℕ) (flags : Flags) → eqb (kindOf (m .body)) 6 ≡ false → speaks (sent m d flags) ≡ false
+  silent m d flags other = ap (λ (n : ℕ). eqb n 6) (kind-sent m d (c .out)) ∙ other
+
+  starts : (m : Message) (l l′ : Life) → e .life ≡ l → isUp l ≡ false → isUp l′ ≡ false → eqb (kindOf (m .body)) 6 ≡ false
+      → Shown (snap (sent m [] noFlags) (wasUp e) l′ (e .line .failures) (e .line .failures) (e .line .busy) (e .line .busy) (e .settings .errors))
+  starts m l l′ living low low′ other =
+      let was : wasUp e ≡ false = ap isUp living ∙ low in
+      let quiet = silent m [] noFlags other in
+      keeps (low′ ∙ sym was) (refl, refl, λ _. refl) refl (ap (λ (t : Bool). t && isAcceptance (c .event) 0) was) refl (never _ quiet)
+      (marks-on (sent m [] noFlags) (e .line .busy) (wasUp e) quiet (λ up. never _ was up))
+
+  start-shows : (x : Exchange) → ExchangeGrounds e (c .event) (c .at) (c .given) x → Shows (Start x)
+  unfolding performed
+  start-shows (Begin goes) g = starts _ Calling Opening (g .1) refl refl (ap (λ (y : Body). eqb (kindOf y) 6) (g .2))
+  start-shows (Greet s) g =
+      starts _ Greeted Answering (g .2 .hearing .living) refl refl (ap (λ (y : Swap). eqb (kindOf (y .goes)) 6) (g .1))
+  start-shows (Measure m) g =
+      starts _ Opening Settling (g .2 .hearing .living) refl refl (ap (λ (y : Measurement). eqb (kindOf (y .swap .goes)) 6) (g .1))
+  start-shows (Estimate m) g =
+      starts _ Answering Closing (g .2 .hearing .living) refl refl (ap (λ (y : Measurement). eqb (kindOf (y .swap .goes)) 6) (g .1))
+  start-shows (Finish s) g =
+      rw (g .4 .hearing .comes, g .4 .hearing .living)
+      (rises refl (silent _ [] upFlag (ap (λ (y : Swap). eqb (kindOf (y .goes)) 6) (g .3))))
+  start-shows (Rise h) g = rw (g .hearing .comes, g .hearing .living) (rises refl refl)
+
+  -- ---- while Up
+
+  hear-shows : (v : Verdict) → VerdictGrounds e (c .event) (c .at) (c .given) v → Shows (Hear v)
+  unfolding performed
+  hear-shows (Deliver d) g =
+      rw (g .0 .comes, g .0 .living)
+      (delivers (by-test (λ (p : Placing). eqb (kindAt (frontAfter p (c .given) (k .queue)) (outAfter p (c .given) (k .queue) (c .out))) 6 ≡ false)
+      (d .train) (λ _. refl) (λ _. refl)))
+  hear-shows (Report a failures) g =
+      let come = failure-comes e (c .event) (c .at) (c .given) a (g .0) in
+      rw (come .0, come .2, g .1)
+      (fails (failure-leaves e (c .event) (c .at) (c .given) a (g .0)) (failure-refused e (c .event) (c .at) (c .given) a (g .0))
+      (ltb-true (e .line .failures + 1) (e .settings .errors) (g .2)))
+
+  -- a mark that was not set says that none has left
+  none-left : (g : ℕ) → Marks false true g → g ≡ 0
+  none-left g m = let few = m .1 in let other = eqb-false g 1 (sym (m .0)) in omega arith
+
+  say-shows : (s : Speech) → SpeechGrounds e (c .event) (c .at) (c .given) s → Shows (Say s)
   unfolding performed encode headerBytes
-  start-shows Begin g = rw (g .2) (starts event 1 (e .line .failures) (e .line .spoke) (e .settings .errors) refl)
-  start-shows (Greet h) g =
-      rw (g .hearing .living) (starts event 2 (e .line .failures) (e .line .spoke) (e .settings .errors) refl)
-  start-shows (Measure h minimum maximum) g =
-      rw (g .0 .hearing .living) (starts event 3 (e .line .failures) (e .line .spoke) (e .settings .errors) refl)
-  start-shows (Estimate h minimum maximum) g =
-      rw (g .0 .hearing .living) (starts event 4 (e .line .failures) (e .line .spoke) (e .settings .errors) refl)
-  start-shows (Finish h) g =
-      rw (g .2 .hearing .comes, g .2 .hearing .living) (rises true 5 (e .line .failures) (e .line .spoke) (e .settings .errors) refl)
-  start-shows (Rise h) g =
-      rw (g .hearing .comes, g .hearing .living) (rises false 0 (e .line .failures) (e .line .spoke) (e .settings .errors) refl)
+  say-shows Quiet g =
+      rw (g .0 .comes, g .0 .living) (keeps refl (refl, refl, λ _. refl) refl refl refl (λ _. refl) (λ n m. (refl, omega arith)))
+  say-shows Beat g =
+      rw (g .0 .comes, g .0 .living) (keeps refl (refl, refl, λ _. refl) refl refl refl (λ _. refl) (λ n m. (refl, omega arith)))
+  say-shows Speak g =
+      rw (g .0 .comes, g .0 .living, g .2)
+      (keeps refl (refl, refl, λ _. refl) refl refl refl (λ _. refl) (λ n m. rw (none-left n m) (refl, omega arith)))
+  say-shows Drain g =
+      rw (g .0 .comes, g .0 .living) (keeps refl (refl, refl, λ _. refl) refl refl refl (λ _. refl) (λ n m. (refl, omega arith)))
+  say-shows Hold g =
+      rests Handled (refl, refl, λ _. refl) refl (ap (λ (v : Event). isAcceptance v 0) (g .0 .comes))
+      (λ _. ap (λ (v : Event). isTick v && true) (g .0 .comes))
 
-  failure-shows : (answer : Answer) → Failure e event at b answer → ltb (e .line .failures + 1) (e .settings .errors) ≡ true
-      → Shows (Hear (Report answer (e .line .failures + 1)))
-  unfolding performed
-  failure-shows answer (is-old h train is hears class) few =
-      rw (is, hears .comes, hears .living) (reports false (e .line .failures) (e .line .spoke) (e .settings .errors) few)
-  failure-shows answer (is-late h train gap is hears class stale) few =
-      rw (is, hears .comes, hears .living) (reports true (e .line .failures) (e .line .spoke) (e .settings .errors) few)
-
-  hear-shows : (v : Verdict) → VerdictGrounds e event at b v → Shows (Hear v)
-  unfolding performed
-  hear-shows (Deliver h true true) g =
-      rw (g .0 .comes, g .0 .living) (delivers true true (e .line .failures) (e .line .spoke) (e .settings .errors))
-  hear-shows (Deliver h true false) g =
-      rw (g .0 .comes, g .0 .living) (delivers false true (e .line .failures) (e .line .spoke) (e .settings .errors))
-  hear-shows (Deliver h false true) g =
-      rw (g .0 .comes, g .0 .living) (delivers true false (e .line .failures) (e .line .spoke) (e .settings .errors))
-  hear-shows (Deliver h false false) g =
-      rw (g .0 .comes, g .0 .living) (delivers false false (e .line .failures) (e .line .spoke) (e .settings .errors))
-  hear-shows (Report answer failures) g = subst (λ (n : ℕ). Shows (Hear (Report answer n))) (sym (g .1)) (failure-shows answer (g .0) (g .2))
-
-  say-shows : (s : Speech) → SpeechGrounds e event at b s → Shows (Say s)
-  unfolding performed encode headerBytes
-  say-shows Quiet g = rw (g .0 .comes, g .0 .living) (is-quiet (e .line .failures) (e .line .spoke) (e .settings .errors))
-  say-shows Beat g = rw (g .0 .comes, g .0 .living) (beats (e .line .failures) (e .line .spoke) (e .settings .errors))
-  say-shows Speak g = rw (g .0 .comes, g .0 .living, g .2) (says (e .line .failures) (e .settings .errors))
-  say-shows Drain g = rw (g .0 .comes, g .0 .living) (beats (e .line .failures) (e .line .spoke) (e .settings .errors))
-  say-shows Hold g = rw (g .0 .comes, g .0 .living) (holds (e .line .failures) (e .line .spoke) (e .settings .errors))
-
-  taken-shows : (act : Act) → Grounded e event at act → Taken e event at b act → Shows act
-  unfolding performed
-  taken-shows (Stay answer) n g = absurd g
-  taken-shows (Note answer) n g =
-      rests event (numberOf answer) (wasUp e) (e .line .failures) (e .line .spoke) (e .settings .errors)
-      (note-rests e event at answer g n)
-  taken-shows (Move m) n g = move-shows m g
-  taken-shows (Start x) n g = start-shows x g
-  taken-shows (Hear v) n g = hear-shows v g
-  taken-shows (Say s) n g = say-shows s g
-
-  stay-shows : (answer : Answer) → Resting event (numberOf answer) (wasUp e) → Shows (Stay answer)
-  unfolding performed
-  stay-shows answer r = rests event (numberOf answer) (wasUp e) (e .line .failures) (e .line .spoke) (e .settings .errors) r
-
-  act-shows : (act : Act) → Grounded e event at act → Decided e event at b (length out) act → Shows act
-  act-shows act n (no-room short is) =
-      subst Shows (sym is) (stay-shows NoRoom (dropped-rests event (wasUp e) 14 refl refl refl))
-  act-shows act n (went-back fits back is) =
-      subst Shows (sym is) (stay-shows ClockBack (dropped-rests event (wasUp e) 2 refl refl refl))
-  act-shows act n (taken fits forth g) = taken-shows act n g
-
-walk : (e : End) (event : Event) (at : Reading) (b out q : List ℕ) → Walk (snapOf e event (stepped e event at b out q))
-unfolding stepped effectOf
-walk e event at b out q =
-    act-shows e event at b out q (decideOf e event at b (length out)) (noted e event at b (length out))
-    (decided e event at b (length out))
-
--- of one call
-pub walked : (k : Kept) (c : Call) → Walk (snapOf (k .end) (c .event) (cameTo k c))
-walked k c = walk (k .end) (c .event) (c .at) (c .given) (c .out) (k .queue)
+pub shown : (k : Kept) (c : Call) → Shown (snapOf (record { before = k; call = c; result = cameTo k c }))
+shown k c =
+    by-call k c (λ (x : Entry). Shown (snapOf x)) (stay-shows k c)
+    (λ _. record { notes = note-shows k c; moves = move-shows k c; starts = start-shows k c; hears = hear-shows k c; says = say-shows k c })

@@ -4,30 +4,30 @@ use mathlib.Core.Bool.{Bool, true, false, cond}
 use mathlib.Core.List.{List}
 use mathlib.Core.Path.{_≡_}
 use lib.ListN.{length}
-use Rattle.judge.specs.Clock.{sinceOf, ageOf}
-use Rattle.judge.specs.Sequence.{aheadOf}
+use Rattle.judge.specs.Clock.{sinceOf}
 use Rattle.judge.specs.declared.clock.Reading.{Reading}
-use Rattle.wire.specs.Message.{parse, headerIn, dataIn}
+use Rattle.wire.specs.Message.{parse, headerIn, trainIn}
 use Rattle.wire.specs.Writing.{over}
 use Rattle.wire.specs.declared.message.Body.the-variants.{LifeSign, TrainData}
 use Rattle.wire.specs.declared.message.Header.{Header}
 use Rattle.wire.specs.declared.message.Parsed.the-variants.{WellFormed}
-use Rattle.rules.specs.Rules.{readingIn, leastRoom}
+use Rattle.rules.specs.Claims.{answerOf}
+use Rattle.rules.specs.Decide.{leastRoom}
+use Rattle.rules.specs.Ends.{noFlags}
+use Rattle.rules.specs.Hearing.{aheadFor, ageFor}
+use Rattle.rules.specs.Step.{Result, stepped}
 use Rattle.rules.specs.declared.act.Event.the-variants.{Message}
 use Rattle.rules.specs.declared.state.Life.the-variants.{Up}
 use Rattle.rules.specs.declared.state.End.{End}
-use Rattle.link.specs.Claims.{answerOf}
-use Rattle.link.specs.Perform.{noFlags, wasUp}
-use Rattle.link.specs.Step.{Result, stepped}
-use Rattle.link.specs.declared.effect.Front.the-variants.{Nothing as none, Datum as datum}
-use Rattle.history.specs.Run.{Making, Sound, Call, Entry, entryOf}
-use Rattle.history.specs.Events.{isDelivery}
+use Rattle.rules.specs.declared.effect.Front.the-variants.{Nothing as none, Datum as datum}
+use Rattle.run.specs.Run.{Making, Sound, Call, Entry, entryOf}
+use Rattle.run.specs.Events.{delivers}
 
 -- ---- what is delivered for certain
 
 -- train data stand at the front of the output, unchanged and without the byte 3; of a life sign nothing is seen
 abbrev pub HandedOver : Bool → List ℕ → List ℕ → Result → Type 0
-HandedOver true given out r = (r .outcome .front ≡ datum (length (dataIn given))) × (r .out ≡ over (dataIn given) out)
+HandedOver true given out r = (r .outcome .front ≡ datum (length (trainIn given))) × (r .out ≡ over (trainIn given) out)
 HandedOver false given out r = (r .outcome .front ≡ none) × (r .out ≡ out)
 
 -- the bytes are a kind 6 with a header: train data or a life sign
@@ -43,13 +43,13 @@ pub record IsTaken (e : End) (at : Reading) (out : List ℕ) : Type 0 where
 pub record IsJudged (e : End) (at : Reading) (out : List ℕ) : Type 0 where
   pub up : e .life ≡ Up
   pub taken : IsTaken e at out
-  pub timely : sinceOf at (e .line .heard) < e .settings .silence
+  pub timely : sinceOf at (e .line .times .heard) < e .settings .silence
 
 -- at any end that is Up, however it came there: d = 1 and an age of at most A are answered 0, with no error report
 abbrev pub ExpectedIsDelivered : Type 0
 ExpectedIsDelivered =
     (e : End) (at : Reading) (given out q : List ℕ) (h : Header) (train : Bool) → IsJudged e at out → Says given h train
-    → aheadOf (h .number) (e .line .last) ≡ 1 → ageOf at (readingIn (h .sent)) (e .line .minimum) ≤ e .settings .age
+    → aheadFor e h ≡ 1 → ageFor e at h ≤ e .settings .age
     → let r = stepped e Message at given out q in
     (answerOf r ≡ 0) × HandedOver train given out r × (r .outcome .flags ≡ noFlags) × (r .outcome .end .life ≡ Up)
 
@@ -57,22 +57,17 @@ ExpectedIsDelivered =
 abbrev pub GapIsDelivered : Type 0
 GapIsDelivered =
     (e : End) (at : Reading) (given out q : List ℕ) (h : Header) (train : Bool) → IsJudged e at out → Says given h train
-    → 2 ≤ aheadOf (h .number) (e .line .last) → aheadOf (h .number) (e .line .last) ≤ e .settings .jump
-    → e .settings .jump ≤ 1_000 → ageOf at (readingIn (h .sent)) (e .line .minimum) ≤ e .settings .age
+    → 2 ≤ aheadFor e h → aheadFor e h ≤ e .settings .jump → e .settings .jump ≤ 1_000 → ageFor e at h ≤ e .settings .age
     → let r = stepped e Message at given out q in
     (answerOf r ≡ 13) × HandedOver train given out r × (r .outcome .flags .error ≡ true) × (r .outcome .end .life ≡ Up)
 
 -- ---- nothing else is delivered
 
--- a message comes to an end that is Up, and the answer is 0 or 13
-abbrev pub delivers : Entry → Bool
-delivers x = isDelivery (wasUp (x .before .end)) (x .call .event) (answerOf (x .result))
-
 -- of a message against the end that gets it: d is 1 to N, and the age at most A
 pub record InTurnAndFresh (x : Entry) (jump age : ℕ) : Type 0 where
-  pub later : 1 ≤ aheadOf (headerIn (x .call .given) .number) (x .before .end .line .last)
-  pub near : aheadOf (headerIn (x .call .given) .number) (x .before .end .line .last) ≤ jump
-  pub fresh : ageOf (x .call .at) (readingIn (headerIn (x .call .given) .sent)) (x .before .end .line .minimum) ≤ age
+  pub later : 1 ≤ aheadFor (x .before .end) (headerIn (x .call .given))
+  pub near : aheadFor (x .before .end) (headerIn (x .call .given)) ≤ jump
+  pub fresh : ageFor (x .before .end) (x .call .at) (headerIn (x .call .given)) ≤ age
 
 -- in every run, what is delivered has 1 ≤ d ≤ N and an age of at most A
 abbrev pub DeliveredIsFresh : Type 0
@@ -84,4 +79,4 @@ DeliveredIsFresh =
 abbrev pub UserGetsDelivered : Type 0
 UserGetsDelivered =
     (m : Making) (cs : List Call) (c : Call) (n : ℕ) → entryOf m cs c .result .outcome .front ≡ datum n
-    → (delivers (entryOf m cs c) ≡ true) × (n ≡ length (dataIn (c .given))) × (entryOf m cs c .result .out ≡ over (dataIn (c .given)) (c .out))
+    → (delivers (entryOf m cs c) ≡ true) × (n ≡ length (trainIn (c .given))) × (entryOf m cs c .result .out ≡ over (trainIn (c .given)) (c .out))

@@ -1,21 +1,32 @@
 -- The failure count is the number of old and late messages since the last delivery or the coming Up, whichever is later.
 use Prim.Native.Nat.{ℕ, _+_, _<_}
-use mathlib.Core.Bool.{Bool, cond, _||_}
+use mathlib.Core.Bool.{Bool, true, false, cond, _||_}
 use mathlib.Core.List.{List, [], _∷_}
 use mathlib.Core.Path.{_≡_}
-use lib.Dec.{eqb}
-use Rattle.history.specs.Run.{Call, Making, Sound, after, history}
-use Rattle.history.specs.Events.{isDelivery}
-use Rattle.history.specs.Seen.{Seen, seen, counted, standsUp}
+use Rattle.rules.specs.Answers.{Leaving, leavesOf}
+use Rattle.rules.specs.Answers.Leaving.{as-ruled, no-end, everything, new-reading, down, error-report, delivered}
+use Rattle.rules.specs.declared.answer.Answer.{Answer}
+use Rattle.run.specs.Run.{Call, Making, Sound, after, history}
+use Rattle.run.specs.Events.{isDelivery}
+use Rattle.history.specs.Seen.{Seen, seen, numberIn, counted, standsUp}
 
--- old or late
-abbrev pub isFailure : ℕ → Bool
-isFailure n = eqb n 9 || eqb n 11
+abbrev pub isErrorReport : Leaving → Bool
+isErrorReport as-ruled = false
+isErrorReport no-end = false
+isErrorReport everything = false
+isErrorReport new-reading = false
+isErrorReport down = false
+isErrorReport error-report = true
+isErrorReport delivered = false
+
+-- old or late: what leaves an error report, and at E of them down
+abbrev pub isFailure : Answer → Bool
+isFailure a = isErrorReport (leavesOf a)
 
 -- one event more, at an end that stands up or not
 abbrev pub failuresAfter : Seen → Bool → ℕ → ℕ
 failuresAfter x up before =
-    cond (x .flags .up || isDelivery up (x .event) (x .answer)) 0 (before + counted (isFailure (x .answer)))
+    cond (x .flags .up || isDelivery up (x .event) (numberIn x)) 0 (before + counted (isFailure (x .answer)))
 
 unfoldable pub failuresSince : List Seen → ℕ
 failuresSince [] = 0

@@ -1,4 +1,4 @@
--- The user's data leave in the order in which they were taken, each once and unchanged, but for those lost by going down.
+-- The user's data leave in the order in which they were handed in, each once and unchanged, but for those lost by going down.
 use Prim.Native.Nat.{ℕ}
 use mathlib.Core.Bool.{cond, _&&_}
 use mathlib.Core.List.{List, [], _∷_, _++_}
@@ -6,37 +6,36 @@ use mathlib.Core.Path.{_≡_}
 use lib.Dec.{eqb}
 use lib.ListN.{getD, take}
 use Rattle.queue.specs.Ring.{entries}
-use Rattle.wire.specs.Message.{dataIn}
+use Rattle.wire.specs.Message.{trainIn}
+use Rattle.rules.specs.Claims.{answerOf}
 use Rattle.rules.specs.declared.act.Event.{Event}
 use Rattle.rules.specs.declared.state.Life.the-variants.{Idle, Up}
-use Rattle.link.specs.Claims.{answerOf}
-use Rattle.link.specs.declared.effect.Front.{Front}
-use Rattle.link.specs.declared.effect.Front.the-variants.{Nothing as none, Message as message, Datum as datum}
-use Rattle.history.specs.Run.{Making, Sound, Call, Entry, Kept, after, history}
-use Rattle.history.specs.Events.{isData}
-use Rattle.history.specs.Numbering.{opens}
+use Rattle.rules.specs.declared.effect.Front.{Front}
+use Rattle.rules.specs.declared.effect.Front.the-variants.{Nothing as none, Message as message, Datum as datum}
+use Rattle.run.specs.Run.{Making, Sound, Call, Entry, Kept, after, history}
+use Rattle.run.specs.Events.{isHandedIn, opens}
 
 -- ---- what one event does with the user's data
 
--- taken: user data that were answered 0
-abbrev pub takenBy : Event → ℕ → List ℕ → List (List ℕ)
-takenBy event answer given = cond (isData event && eqb answer 0) (given ∷ []) []
+-- handed in: user data that were answered 0
+abbrev pub handedBy : Event → ℕ → List ℕ → List (List ℕ)
+handedBy event answer given = cond (isHandedIn event answer) (given ∷ []) []
 
-abbrev pub takenIn : Entry → List (List ℕ)
-takenIn x = takenBy (x .call .event) (answerOf (x .result)) (x .call .given)
+abbrev pub handedIn : Entry → List (List ℕ)
+handedIn x = handedBy (x .call .event) (answerOf (x .result)) (x .call .given)
 
--- the train data of a message: of kind 6, and with 3 as the first byte of its payload
-abbrev pub trainIn : List ℕ → List (List ℕ)
-trainIn s = cond (eqb (getD s 0 0) 6 && eqb (getD s 15 0) 3) (dataIn s ∷ []) []
+-- the train data that a message carries: it is of kind 6, and the first byte of its payload is 3
+abbrev pub carriedIn : List ℕ → List (List ℕ)
+carriedIn s = cond (eqb (getD s 0 0) 6 && eqb (getD s 15 0) 3) (trainIn s ∷ []) []
 
-abbrev pub trainAt : Front → List ℕ → List (List ℕ)
-trainAt none out = []
-trainAt (message n) out = trainIn (take n out)
-trainAt (datum n) out = []
+abbrev pub carriedAt : Front → List ℕ → List (List ℕ)
+carriedAt none out = []
+carriedAt (message n) out = carriedIn (take n out)
+carriedAt (datum n) out = []
 
 -- sent: the train data of the message that left
 abbrev pub sentIn : Entry → List (List ℕ)
-sentIn x = trainAt (x .result .outcome .front) (x .result .out)
+sentIn x = carriedAt (x .result .outcome .front) (x .result .out)
 
 -- what waits, the oldest first
 abbrev pub waiting : Kept → List (List ℕ)
@@ -51,14 +50,14 @@ lostIn x = cond (x .result .outcome .flags .down) (waiting (x .before)) []
 -- the data that the events since the last ask or accept yield, the oldest first
 unfoldable pub inConnection : (Entry → List (List ℕ)) → List Entry → List (List ℕ)
 inConnection yields [] = []
-inConnection yields (x ∷ xs) = cond (opens x) [] (inConnection yields xs ++ yields x)
+inConnection yields (x ∷ xs) = cond (opens (x .result)) [] (inConnection yields xs ++ yields x)
 
--- in every run: the data taken in a connection are those sent in it, then those lost, then those that wait;
+-- in every run: the data handed in in a connection are those sent in it, then those lost, then those that wait;
 -- as lists, so the order is one, none is sent twice or left out, and no byte differs
 abbrev pub Sending : Type 0
 Sending =
     (m : Making) → Sound m → (cs : List Call)
-    → inConnection takenIn (history m cs)
+    → inConnection handedIn (history m cs)
     ≡ inConnection sentIn (history m cs) ++ (inConnection lostIn (history m cs) ++ waiting (after m cs))
 
 -- until an end goes down, nothing of its connection is lost

@@ -4,11 +4,11 @@ use mathlib.Core.Bool.{Bool, false, _||_}
 use mathlib.Core.List.{List}
 use mathlib.Core.Path.{_≡_}
 use Rattle.judge.specs.Clock.{sinceOf}
+use Rattle.rules.specs.Claims.{answerOf}
 use Rattle.rules.specs.declared.state.Life.the-variants.{Up}
-use Rattle.link.specs.Claims.{answerOf}
-use Rattle.history.specs.Run.{Making, Sound, Call, Entry, entryOf, after}
-use Rattle.history.specs.Delivery.{delivers}
-use Rattle.history.specs.Timed.{Moment, callsOf, latest, RunsTrue, timeOf, AtLeastEvery, isPassedBy, looks}
+use Rattle.run.specs.Run.{Making, Sound, Call, Entry, entryOf, after}
+use Rattle.run.specs.Events.{isPassedBy, delivers}
+use Rattle.history.specs.Timed.{Moment, callsOf, latest, RunsTrue, timeOf, AtLeastEvery, looks}
 
 -- the end hears of its peer: it comes Up, or a message is delivered
 abbrev pub hears : Entry → Bool
@@ -23,7 +23,7 @@ SilentEndsFall =
     (m : Making) → Sound m → (cs : List Call) (c : Call) → isPassedBy (m .role) (c .event) ≡ false
     → (answerOf (entryOf m cs c .result) ≡ 2 → ⊥) → (answerOf (entryOf m cs c .result) ≡ 14 → ⊥)
     → entryOf m cs c .result .outcome .end .life ≡ Up
-    → sinceOf (c .at) (entryOf m cs c .result .outcome .end .line .heard) < m .settings .silence
+    → sinceOf (c .at) (entryOf m cs c .result .outcome .end .line .times .heard) < m .settings .silence
 
 -- ---- in true time
 

@@ -6,12 +6,9 @@ use mathlib.Core.Path.{_≡_}
 use lib.Dec.{leb}
 use lib.ListN.{length}
 use Rattle.judge.specs.declared.clock.Reading.{Reading}
-use Rattle.rules.specs.Rules.{leastRoom}
-use Rattle.rules.specs.declared.act.Event.{Event}
-use Rattle.rules.specs.declared.state.Role.{Role}
-use Rattle.rules.specs.declared.state.Role.the-variants.{Initiator, Called}
-use Rattle.history.specs.Run.{Making, Call, Entry, entryOf}
-use Rattle.history.specs.Events.{isTick, isConnect}
+use Rattle.rules.specs.Decide.{leastRoom}
+use Rattle.run.specs.Run.{Making, Call, Entry, entryOf}
+use Rattle.run.specs.Events.{isTick, isPassedBy}
 
 -- a call and the time at which it comes
 pub record Moment : Type 0 where
@@ -47,11 +44,6 @@ AtLeastEvery g sort m start [] = Unit {0}
 AtLeastEvery g sort m start (x ∷ xs) = AtLeastEvery g sort m start xs × (x .time ≤ timeOf sort m start xs + g)
 
 -- ---- the moments at which no state outlives its limit
-
--- a connect indication to an initiator: the one event that is taken before any limit is looked at and yet ends no state
-abbrev pub isPassedBy : Role → Event → Bool
-isPassedBy Initiator event = isConnect event
-isPassedBy Called event = false
 
 abbrev pub roomy : Entry → Bool
 roomy x = leb leastRoom (length (x .call .out))

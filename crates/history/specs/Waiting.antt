@@ -7,7 +7,10 @@ use mathlib.Core.Path.{_≡_}
 use lib.Dec.{eqb}
 use Rattle.judge.specs.Clock.{sinceOf}
 use Rattle.judge.specs.declared.clock.Reading.{Reading}
+use Rattle.rules.specs.Claims.{answerOf}
+use Rattle.rules.specs.Living.{mayAsk}
 use Rattle.rules.specs.State.{phaseOf}
+use Rattle.rules.specs.Step.{stepped}
 use Rattle.rules.specs.declared.act.Event.{Event}
 use Rattle.rules.specs.declared.act.Event.the-variants.{Tick}
 use Rattle.rules.specs.declared.state.Role.the-variants.{Initiator}
@@ -16,12 +19,9 @@ use Rattle.rules.specs.declared.state.Life.the-variants.{Idle, Calling}
 use Rattle.rules.specs.declared.state.Phase.{Phase}
 use Rattle.rules.specs.declared.state.Phase.the-variants.{Idle as resting, Starting as starting, Up as upright}
 use Rattle.rules.specs.declared.state.End.{End}
-use Rattle.link.specs.Claims.{answerOf}
-use Rattle.link.specs.Step.{stepped}
-use Rattle.history.specs.Run.{Making, Sound, Entry, after}
-use Rattle.history.specs.Events.{isConfirm, isIndication}
+use Rattle.run.specs.Run.{Making, Sound, Entry, after}
+use Rattle.run.specs.Events.{isConfirm, isIndication, asks, opens}
 use Rattle.history.specs.Delivery.{IsTaken}
-use Rattle.history.specs.Numbering.{opens}
 use Rattle.history.specs.Timed.{Moment, callsOf, latest, RunsTrue, timeOf, AtLeastEvery, ticks, looks}
 
 -- ---- one event, at any end
@@ -34,11 +34,10 @@ OverdueStartEnds =
     → let r = stepped e event at given out q in
     (answerOf r ≡ 12) × (r .outcome .end .life ≡ Idle) × (r .outcome .flags .release ≡ true)
 
--- a tick makes an Idle initiator ask that may ask at once, or that last asked C ticks ago
+-- a tick makes an Idle initiator ask that may: at once, or C ticks after it last asked
 abbrev pub IdleTickAsks : Type 0
 IdleTickAsks =
-    (e : End) (at : Reading) (given out q : List ℕ) → e .life ≡ Idle → e .role ≡ Initiator → IsTaken e at out
-    → (e .«at_once» ≡ true) ⊎ (e .settings .retry ≤ sinceOf at (e .asked))
+    (e : End) (at : Reading) (given out q : List ℕ) → e .life ≡ Idle → e .role ≡ Initiator → IsTaken e at out → mayAsk e at ≡ true
     → let r = stepped e Tick at given out q in
     (answerOf r ≡ 0) × (r .outcome .end .life ≡ Calling) × (r .outcome .flags .ask ≡ true)
 
@@ -46,10 +45,10 @@ IdleTickAsks =
 
 -- the wait begins: at an ask, at an accept, and at a confirm that is answered 0
 abbrev pub waits : Entry → Bool
-waits x = opens x || (isConfirm (x .call .event) && eqb (answerOf (x .result)) 0)
+waits x = opens (x .result) || (isConfirm (x .call .event) && eqb (answerOf (x .result)) 0)
 
-abbrev pub asks : Entry → Bool
-asks x = x .result .outcome .flags .ask
+abbrev pub asksIn : Entry → Bool
+asksIn x = asks (x .result)
 
 abbrev pub isIdleIn : Phase → Bool
 isIdleIn resting = true
@@ -80,5 +79,5 @@ InitiatorAsks =
     (m : Making) → Sound m → (start g : ℕ) (xs : List Moment) → RunsTrue m start xs → AtLeastEvery g ticks m start xs
     → g + m .settings .wait ≤ 2 ^ 31 → m .role ≡ Initiator → after m (callsOf xs) .end .life ≡ Idle
     → ((timeOf ticks m start xs ≤ timeOf rests m start xs) × (latest start xs ≤ timeOf rests m start xs + g))
-    ⊎ ((timeOf ticks m start xs < timeOf asks m start xs + m .settings .retry)
-    × (latest start xs < timeOf asks m start xs + m .settings .retry + g))
+    ⊎ ((timeOf ticks m start xs < timeOf asksIn m start xs + m .settings .retry)
+    × (latest start xs < timeOf asksIn m start xs + m .settings .retry + g))

@@ -1,0 +1,1 @@
+// Runs of one end: what happened to it, and the words for one event. Nothing runs here; see specs/.
