@@ -25,12 +25,6 @@ number-next next sent is = omega arith
 abbrev Same : ℕ → ℕ → Type 0
 Same a b = a % 2 ^ 32 ≡ b % 2 ^ 32
 
-cancel : (a b k : ℕ) → Same (a + k) (b + k) → Same a b
-cancel a b k same = omega arith
-
-add : (a b k : ℕ) → Same a b → Same (a + k) (b + k)
-add a b k same = omega arith
-
 -- a reading back from its remainder
 back : (a b d r : ℕ) → r ≡ b % 2 ^ 32 → Same (r + d) a → Same (b + d) a
 back a b d r is same = sym (mod-add-mod b (2 ^ 32) d) ∙ ap (λ (k : ℕ). (k + d) % 2 ^ 32) (sym is) ∙ same
@@ -40,76 +34,27 @@ difference : (own peer a b : ℕ) → own ≡ a % 2 ^ 32 → peer ≡ b % 2 ^ 32
 difference own peer a b is at =
     back a b (diff 32 own peer) peer at (diff-adds 32 own peer ∙ ap (λ (k : ℕ). k % 2 ^ 32) is ∙ mod-mod a (2 ^ 32))
 
--- the minimum is too small by the ticks from the echoed reading to the answer
-pub minimum-is : (echo receipt then sent own peer : ℕ) → echo ≡ (then + own) % 2 ^ 32 → receipt ≡ (sent + peer) % 2 ^ 32
-    → then ≤ sent → (diff 32 echo receipt + peer + (sent - then)) % 2 ^ 32 ≡ own % 2 ^ 32
-minimum-is echo receipt then sent own peer e r order =
-    let d = diff 32 echo receipt in
-    let same : Same (sent + peer + d) (then + own) = difference echo receipt (then + own) (sent + peer) e r in
-    cancel (d + peer + (sent - then)) own then
-    (ap (λ (k : ℕ). k % 2 ^ 32) (regroup d) ∙ same ∙ ap (λ (k : ℕ). k % 2 ^ 32) swap)
-  where
-    regroup : (d : ℕ) → d + peer + (sent - then) + then ≡ sent + peer + d
-    regroup d = omega arith
+low-off : (low at peer then own : ℕ) → Same (at + peer + low) (then + own) → then ≤ at → Same (low + peer + (at - then)) own
+low-off low at peer then own same order = omega arith
 
-    swap : then + own ≡ own + then
-    swap = omega arith
+-- the minimum is too small by the ticks from the echoed reading to its receipt
+pub minimum-is : (echo receipt then at own peer : ℕ) → echo ≡ (then + own) % 2 ^ 32 → receipt ≡ (at + peer) % 2 ^ 32
+    → then ≤ at → (diff 32 echo receipt + peer + (at - then)) % 2 ^ 32 ≡ own % 2 ^ 32
+minimum-is echo receipt then at own peer e r order =
+    low-off (diff 32 echo receipt) at peer then own (difference echo receipt (then + own) (at + peer) e r) order
 
--- the spread is the ticks from the echoed reading to the receipt of the answer
-pub spread-is : (echo receipt then sent own peer at minimum maximum time : ℕ) → echo ≡ (then + own) % 2 ^ 32
-    → receipt ≡ (sent + peer) % 2 ^ 32 → at ≡ (time + own) % 2 ^ 32 → minimum ≡ diff 32 echo receipt → maximum ≡ diff 32 at receipt
-    → then ≤ sent → sent < then + 2 ^ 31 → sent ≤ time → time < sent + 2 ^ 31 → diff 32 maximum minimum ≡ time - then
-spread-is echo receipt then sent own peer at minimum maximum time e r a least most order1 soon1 order2 soon2 =
-    diff-is 32 (time - then) maximum minimum fits
-    (cancel (minimum + (time - then)) maximum (sent + peer)
-    (ap (λ (k : ℕ). k % 2 ^ 32) left
-    ∙ add (sent + peer + minimum) (then + own) (time - then) low
-    ∙ ap (λ (k : ℕ). k % 2 ^ 32) middle
-    ∙ sym high
-    ∙ ap (λ (k : ℕ). k % 2 ^ 32) right))
-  where
-    fits : time - then < 2 ^ 32
-    fits = omega arith
+add : (a b k : ℕ) → Same a b → Same (a + k) (k + b)
+add a b k same = omega arith
 
-    low : Same (sent + peer + minimum) (then + own)
-    low = ap (λ (k : ℕ). (sent + peer + k) % 2 ^ 32) least ∙ difference echo receipt (then + own) (sent + peer) e r
-
-    high : Same (sent + peer + maximum) (time + own)
-    high = ap (λ (k : ℕ). (sent + peer + k) % 2 ^ 32) most ∙ difference at receipt (time + own) (sent + peer) a r
-
-    left : minimum + (time - then) + (sent + peer) ≡ sent + peer + minimum + (time - then)
-    left = omega arith
-
-    middle : then + own + (time - then) ≡ time + own
-    middle = omega arith
-
-    right : sent + peer + maximum ≡ maximum + (sent + peer)
-    right = omega arith
+high-off : (low late high sent peer time : ℕ) → Same (low + peer + late + time) (sent + peer + high) → sent ≤ time
+    → Same (low + ((time - sent) + late)) high
+high-off low late high sent peer time same order = omega arith
 
 -- the age is the true one, and what the minimum is too small by
 pub age-is : (at stamp minimum sent own peer late time : ℕ) → at ≡ (time + own) % 2 ^ 32 → stamp ≡ (sent + peer) % 2 ^ 32
     → (minimum + peer + late) % 2 ^ 32 ≡ own % 2 ^ 32 → sent ≤ time → time < sent + 2 ^ 31 → late < 2 ^ 31
     → diff 32 (diff 32 at stamp) minimum ≡ (time - sent) + late
 age-is at stamp minimum sent own peer late time a s m order soon little =
-    diff-is 32 ((time - sent) + late) d minimum fits
-    (cancel (minimum + ((time - sent) + late)) d (sent + peer)
-    (ap (λ (k : ℕ). k % 2 ^ 32) left ∙ add (minimum + peer + late) own time m ∙ ap (λ (k : ℕ). k % 2 ^ 32) middle ∙ sym same
-    ∙ ap (λ (k : ℕ). k % 2 ^ 32) right))
-  where
-    d : ℕ
-    d = diff 32 at stamp
-
-    fits : (time - sent) + late < 2 ^ 32
-    fits = omega arith
-
-    same : Same (sent + peer + diff 32 at stamp) (time + own)
-    same = difference at stamp (time + own) (sent + peer) a s
-
-    left : minimum + ((time - sent) + late) + (sent + peer) ≡ minimum + peer + late + time
-    left = omega arith
-
-    middle : own + time ≡ time + own
-    middle = omega arith
-
-    right : sent + peer + diff 32 at stamp ≡ diff 32 at stamp + (sent + peer)
-    right = omega arith
+    diff-is 32 ((time - sent) + late) (diff 32 at stamp) minimum (omega arith)
+    (high-off minimum late (diff 32 at stamp) sent peer time
+    (add (minimum + peer + late) own time m ∙ sym (difference at stamp (time + own) (sent + peer) a s)) order)

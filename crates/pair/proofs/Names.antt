@@ -1,234 +1,177 @@
 -- The names of connections: which asks were made and answered, and who has sent what in them.
 use Prim.Native.Nat.{ℕ, _+_, _≤_}
 use native.Mathlib.Omega.{arith}
-use mathlib.Core.Bool.{Bool, true, false, cond, false≢true}
 use mathlib.Core.List.{List, [], _∷_}
 use mathlib.Core.Logic.{inl, inr}
-use mathlib.Core.Path.{_≡_, refl, sym, ap, subst, _∙_}
-use Rattle.wire.specs.Message.{encode, headerBytes, parse}
+use mathlib.Core.Path.{_≡_, refl, sym, subst}
+use Rattle.wire.specs.Message.{kindOf}
 use Rattle.wire.specs.declared.message.Header.{Header}
-use Rattle.wire.specs.declared.message.Body.the-variants.{OffsetStart}
-use Rattle.rules.proofs.Decided.{apart}
-use Rattle.rules.specs.declared.act.Event.the-variants.{Message}
-use Rattle.rules.specs.declared.state.Role.{Role}
-use Rattle.rules.specs.declared.state.Role.the-variants.{Initiator, Called}
-use Rattle.rules.specs.declared.state.Life.{Life}
-use Rattle.rules.specs.declared.state.Life.the-variants.{Idle, Calling, Opening, Settling, Greeted, Answering, Closing, Up}
+use Rattle.rules.specs.declared.act.Event.the-variants.{Message as message}
+use Rattle.rules.specs.declared.state.Life.the-variants.{Idle, Calling, Greeted}
 use Rattle.pair.specs.Among.{Among}
-use Rattle.pair.specs.World.{Letter}
-use Rattle.pair.specs.Event.{Call}
+use Rattle.pair.specs.Happening.{Happening}
+use Rattle.pair.specs.Run.{Origin, freshSide}
 use Rattle.pair.proofs.Among.{with-new}
-use Rattle.pair.proofs.View.{View, kindIn, living, sending, messageOf, entering}
-use Rattle.pair.proofs.Step.{Step, readAt}
-use Rattle.pair.proofs.Step.Step.{rests, asks, accepts, falls, begins, greets, measures, estimates, finishes, rises, delivers, quiets, beats, speaks, drains, holds}
-use Rattle.pair.proofs.Invariant.{hasOffset}
-use Rattle.pair.proofs.Carried.{Carried}
-use Rattle.pair.proofs.Preserved.{New}
+use Rattle.pair.proofs.Notes.{Note, noteOf}
+use Rattle.pair.proofs.View.{View, viewOf, sending, entering}
+use Rattle.pair.proofs.Change.{Change, Sends, heard}
+use Rattle.pair.proofs.Change.Change.{falls, gauges, lives, serves, sends, hears, delivers}
+use Rattle.pair.proofs.Carried.{MayCome}
+use Rattle.pair.proofs.Order.{Order, New}
+use Rattle.pair.proofs.Joined.{Joined}
 
--- of the initiator l and the called end r
+-- of the initiator: it names its connections itself, and has heard and sent data only in one that was answered
+abbrev Asker : ℕ → List ℕ → View → Type 0
+Asker asked answered l =
+    record {
+      named : l .connection ≤ asked;
+      log : (n : Note) → Among n (l .story .log) → n .letter .connection ≤ asked;
+      heard : 1 ≤ l .count .accepted → Among (l .connection) answered;
+      data-sent : (n : Note) → Among n (l .story .log) → kindOf (n .message .body) ≡ 6 → Among (n .letter .connection) answered;
+    }
+
+-- of the called end: it is in a connection, and has sent in one, only that it has accepted; or it is in none, which is 0
+abbrev Answerer : List ℕ → View → Type 0
+Answerer answered r =
+    record {
+      in-one : (r .life ≡ Idle → ⊥) → 1 ≤ r .connection → Among (r .connection) answered;
+      log : (n : Note) → Among n (r .story .log) → Among (n .letter .connection) answered;
+    }
+
 abbrev pub Names : ℕ → List ℕ → View → View → Type 0
 Names asked answered l r =
+    record { made : (n : ℕ) → Among n answered → n ≤ asked; asker : Asker asked answered l; answerer : Answerer answered r }
+
+pub names-begun : (l r : Origin) → Names 0 [] (viewOf (freshSide l)) (viewOf (freshSide r))
+names-begun l r =
     record {
-      leftRole : l .fixed .role ≡ Initiator;
-      rightRole : r .fixed .role ≡ Called;
-      answers : (n : ℕ) → Among n answered → n ≤ asked;
-      leftNamed : l .connection ≤ asked;
-      leftLog : (m : Letter) → Among m (l .log) → m .connection ≤ asked;
-      leftData : (m : Letter) → Among m (l .log) → kindIn (parse (m .bytes)) ≡ 6 → Among (m .connection) answered;
-      leftIn : hasOffset (l .life) ≡ true → Among (l .connection) answered;
-      rightLog : (m : Letter) → Among m (r .log) → Among (m .connection) answered;
-      rightIn : (r .life ≡ Idle → ⊥) → Among (r .connection) answered;
+      made = λ n i. absurd i;
+      asker = record { named = omega arith; log = λ n i. absurd i; heard = λ some. absurd (omega arith); data-sent = λ n i. absurd i };
+      answerer = record { in-one = λ alive. absurd (alive refl); log = λ n i. absurd i };
     }
-
--- ---- a new connection is new to both
-
-pub new-left : (asked : ℕ) (answered : List ℕ) (l r : View) → Names asked answered l r → New (asked + 1) l r
-new-left asked answered l r n =
-    record {
-      own = λ m i is. (let known = n .leftLog m i in omega arith);
-      peer = λ m i kind is. (let known = n .answers (m .connection) (n .rightLog m i) in omega arith);
-    }
-
-pub new-right : (asked : ℕ) (answered : List ℕ) (l r : View) (name : ℕ) → Names asked answered l r → (Among name answered → ⊥)
-    → New name r l
-new-right asked answered l r name n free =
-    record {
-      own = λ m i is. free (subst (λ (k : ℕ). Among k answered) is (n .rightLog m i));
-      peer = λ m i kind is. free (subst (λ (k : ℕ). Among k answered) is (n .leftData m i kind));
-    }
-
--- ---- roles
-
-abbrev isCalled : Role → Bool
-isCalled Initiator = false
-isCalled Called = true
-
-pub one-role : (r : Role) → r ≡ Initiator → r ≡ Called → ⊥
-one-role r a b = false≢true (ap isCalled (sym a ∙ b))
-
--- ---- the initiator
 
 module _ (asked : ℕ) (answered : List ℕ) (l r : View) (n : Names asked answered l r) where
-  left-lives : (life : Life) → (hasOffset life ≡ true → Among (l .connection) answered) → Names asked answered (living life l) r
-  left-lives life has =
+  -- ---- a new connection is new to both
+
+  pub new-ask : New (asked + 1) l (r .story .log)
+  new-ask =
       record {
-        leftRole = n .leftRole;
-        rightRole = n .rightRole;
-        answers = n .answers;
-        leftNamed = n .leftNamed;
-        leftLog = n .leftLog;
-        leftData = n .leftData;
-        leftIn = has;
-        rightLog = n .rightLog;
-        rightIn = n .rightIn;
+        own = λ m i is. (let known = n .asker .log m i in omega arith);
+        peer = λ m i kind is. (let known = n .made (m .letter .connection) (n .answerer .log m i) in omega arith);
       }
 
-  left-sends : (m : Letter) → m .connection ≡ l .connection → (kindIn (parse (m .bytes)) ≡ 6 → Among (l .connection) answered)
-      → Names asked answered (sending m l) r
-  left-sends m same data-in =
+  pub new-accept : (name : ℕ) → (Among name answered → ⊥) → New name r (l .story .log)
+  new-accept name free =
       record {
-        leftRole = n .leftRole;
-        rightRole = n .rightRole;
-        answers = n .answers;
-        leftNamed = n .leftNamed;
-        leftLog = with-new m (l .log) (λ (k : Letter). k .connection ≤ asked) (let named = n .leftNamed in omega arith) (n .leftLog);
-        leftData = with-new m (l .log) (λ (k : Letter). kindIn (parse (k .bytes)) ≡ 6 → Among (k .connection) answered)
-            (λ kind. subst (λ (k : ℕ). Among k answered) (sym same) (data-in kind)) (n .leftData);
-        leftIn = n .leftIn;
-        rightLog = n .rightLog;
-        rightIn = n .rightIn;
+        own = λ m i is. free (subst (λ (k : ℕ). Among k answered) is (n .answerer .log m i));
+        peer = λ m i kind is. free (subst (λ (k : ℕ). Among k answered) is (n .asker .data-sent m i kind));
       }
 
-  left-asks : Names (asked + 1) answered (entering Calling (asked + 1) l) r
-  left-asks =
+  pub names-ask : Names (asked + 1) answered (entering Calling (asked + 1) l) r
+  names-ask =
       record {
-        leftRole = n .leftRole;
-        rightRole = n .rightRole;
-        answers = λ k i. (let a = n .answers k i in omega arith);
-        leftNamed = omega arith;
-        leftLog = λ m i. (let a = n .leftLog m i in omega arith);
-        leftData = n .leftData;
-        leftIn = λ no. absurd (false≢true no);
-        rightLog = n .rightLog;
-        rightIn = n .rightIn;
+        made = λ k i. (let a = n .made k i in omega arith);
+        asker = record {
+          named = omega arith;
+          log = λ m i. (let a = n .asker .log m i in omega arith);
+          heard = λ some. absurd (omega arith);
+          data-sent = n .asker .data-sent;
+        };
+        answerer = n .answerer;
       }
 
-  -- ---- the called end
-
-  right-lives : (life : Life) → ((life ≡ Idle → ⊥) → Among (r .connection) answered) → Names asked answered l (living life r)
-  right-lives life has =
+  pub names-accept : (name : ℕ) → name ≤ asked → Names asked (name ∷ answered) l (entering Greeted name r)
+  names-accept name was =
       record {
-        leftRole = n .leftRole;
-        rightRole = n .rightRole;
-        answers = n .answers;
-        leftNamed = n .leftNamed;
-        leftLog = n .leftLog;
-        leftData = n .leftData;
-        leftIn = n .leftIn;
-        rightLog = n .rightLog;
-        rightIn = has;
+        made = with-new name answered (λ (k : ℕ). k ≤ asked) was (n .made);
+        asker = record {
+          named = n .asker .named;
+          log = n .asker .log;
+          heard = λ some. inr (n .asker .heard some);
+          data-sent = λ m i kind. inr (n .asker .data-sent m i kind);
+        };
+        answerer = record { in-one = λ _ _. inl refl; log = λ m i. inr (n .answerer .log m i) };
       }
 
-  right-sends : (m : Letter) → m .connection ≡ r .connection → Among (r .connection) answered → Names asked answered l (sending m r)
-  right-sends m same known =
+  -- an accept that answers no ask
+  pub names-stray : Names asked answered l (entering Greeted 0 r)
+  names-stray =
       record {
-        leftRole = n .leftRole;
-        rightRole = n .rightRole;
-        answers = n .answers;
-        leftNamed = n .leftNamed;
-        leftLog = n .leftLog;
-        leftData = n .leftData;
-        leftIn = n .leftIn;
-        rightLog =
-            with-new m (r .log) (λ (k : Letter). Among (k .connection) answered) (subst (λ (k : ℕ). Among k answered) (sym same) known)
-            (n .rightLog);
-        rightIn = n .rightIn;
+        made = n .made;
+        asker = n .asker;
+        answerer = record { in-one = λ _ some. absurd (omega arith); log = n .answerer .log };
       }
 
-  right-accepts : (name : ℕ) → name ≤ asked → Names asked (name ∷ answered) l (entering Greeted name r)
-  right-accepts name made =
-      record {
-        leftRole = n .leftRole;
-        rightRole = n .rightRole;
-        answers = with-new name answered (λ (k : ℕ). k ≤ asked) made (n .answers);
-        leftNamed = n .leftNamed;
-        leftLog = n .leftLog;
-        leftData = λ m i kind. inr (n .leftData m i kind);
-        leftIn = λ has. inr (n .leftIn has);
-        rightLog = λ m i. inr (n .rightLog m i);
-        rightIn = λ _. inl refl;
-      }
+  module _ (time : ℕ) (c : Happening) where
+    -- ---- the initiator changes
 
--- ---- every event
+    -- what it hears was sent in a connection that was answered
+    hear : (h : Header) → MayCome time c l (r .story .log) → c .event ≡ message
+        → Names asked answered (heard time c h l) r
+    unfolding noteOf
+    hear h may comes =
+        let m = may comes in
+        record {
+          made = n .made;
+          asker = record {
+            named = n .asker .named;
+            log = n .asker .log;
+            heard = λ _. subst (λ (k : ℕ). Among k answered) (m .sameConnection) (n .answerer .log (noteOf (c .letter)) (m .wasSent));
+            data-sent = n .asker .data-sent;
+          };
+          answerer = n .answerer;
+        }
 
--- the first message of a connection is no data message
-begin-kind : (h : Header) → kindIn (parse (encode (record { header = h; body = OffsetStart }) [])) ≡ 1
-unfolding parse encode headerBytes
-begin-kind h = refl
+    send : (m : Note) → Sends time l m → Order l (r .story .log) → Names asked answered (sending m l) r
+    send m k o =
+        record {
+          made = n .made;
+          asker = record {
+            named = n .asker .named;
+            log = with-new m (l .story .log) (λ (j : Note). j .letter .connection ≤ asked)
+                (let named = n .asker .named in let is = k .connection in omega arith) (n .asker .log);
+            heard = n .asker .heard;
+            data-sent =
+                with-new m (l .story .log) (λ (j : Note). kindOf (j .message .body) ≡ 6 → Among (j .letter .connection) answered)
+                (λ kind. subst (λ (i : ℕ). Among i answered) (sym (k .connection)) (n .asker .heard (o .numbers .risen (k .up kind))))
+                (n .asker .data-sent);
+          };
+          answerer = n .answerer;
+        }
 
-module _ (time asked : ℕ) (c : Call) (answered : List ℕ) (l r : View) (n : Names asked answered l r) where
-  abbrev After : Bool → Bool → View → View → Type 0
-  After a b l′ r′ = Names (cond a (asked + 1) asked) (cond b (c .ask ∷ answered) answered) l′ r′
+    pub names-left : (l′ : View) → Order l (r .story .log) → MayCome time c l (r .story .log) → Change time c l l′ → Names asked answered l′ r
+    names-left l′ o may falls = n
+    names-left l′ o may (gauges pair none) = n
+    names-left l′ o may (lives life k) = n
+    names-left l′ o may (serves user k) = n
+    names-left l′ o may (sends m user k t) = send m k o
+    names-left l′ o may (hears h body k) = hear h may (k .comes)
+    names-left l′ o may (delivers h body k up six young) = hear h may (k .comes)
 
-  -- what the initiator hears was sent in a connection that was answered
-  left-hears : Carried time l r (c .letter) → Among (l .connection) answered
-  left-hears may = subst (λ (k : ℕ). Among k answered) (may .sameConnection) (n .rightLog (c .letter) (may .wasSent))
+    -- ---- the called end changes
 
-  left-speaks : (life : Life) (m : Letter) → m .connection ≡ l .connection → Among (l .connection) answered
-      → Names asked answered (sending m (living life l)) r
-  left-speaks life m same known =
-      left-sends asked answered (living life l) r (left-lives asked answered l r n life (λ _. known)) m same (λ _. known)
-
-  up-left : l .life ≡ Up → Among (l .connection) answered
-  up-left is = n .leftIn (ap hasOffset is)
-
-  pub names-left : (l′ : View) (a b : Bool) → Step time asked c l l′ a b → (c .event ≡ Message → Carried time l r (c .letter))
-      → After a b l′ r
-  names-left l′ a b rests may = n
-  names-left l′ a b (asks idle role) may = left-asks asked answered l r n
-  names-left l′ a b (accepts role) may = absurd (one-role (l .fixed .role) (n .leftRole) role)
-  names-left l′ a b falls may = left-lives asked answered l r n Idle (λ no. absurd (false≢true no))
-  names-left l′ a b (begins is) may =
-      left-sends asked answered (living Opening l) r (left-lives asked answered l r n Opening (λ no. absurd (false≢true no))) _ refl
-      (λ kind. (let one = begin-kind (messageOf (readAt time l) OffsetStart l .header) in absurd (omega arith)))
-  names-left l′ a b (greets h hears) may = left-speaks Answering _ refl (left-hears (may (hears .comes)))
-  names-left l′ a b (measures h low high hears m) may = left-speaks Settling _ refl (left-hears (may (hears .comes)))
-  names-left l′ a b (estimates h low high hears m) may = left-speaks Closing _ refl (left-hears (may (hears .comes)))
-  names-left l′ a b (finishes h low high hears) may = left-speaks Up _ refl (left-hears (may (hears .comes)))
-  names-left l′ a b (rises h hears) may = left-lives asked answered l r n Up (λ _. left-hears (may (hears .comes)))
-  names-left l′ a b (delivers h train hears young) may = n
-  names-left l′ a b (quiets none) may = n
-  names-left l′ a b (beats is) may = left-sends asked answered l r n _ refl (λ _. up-left is)
-  names-left l′ a b (speaks is mark ok) may = left-sends asked answered l r n _ refl (λ _. up-left is)
-  names-left l′ a b (drains d rest is queue ok) may = left-sends asked answered l r n _ refl (λ _. up-left is)
-  names-left l′ a b (holds is mark) may = n
-
-  right-alive : (life : Life) → r .life ≡ life → (life ≡ Idle → ⊥) → Among (r .connection) answered
-  right-alive life is some = n .rightIn (λ idle. some (sym is ∙ idle))
-
-  right-speaks : (life : Life) (m : Letter) → m .connection ≡ r .connection → Among (r .connection) answered
-      → Names asked answered l (sending m (living life r))
-  right-speaks life m same known =
-      right-sends asked answered l (living life r) (right-lives asked answered l r n life (λ _. known)) m same known
-
-  pub names-right : (r′ : View) (a b : Bool) → Step time asked c r r′ a b → (b ≡ true → c .ask ≤ asked) → After a b l r′
-  names-right r′ a b rests made = n
-  names-right r′ a b (asks idle role) made = absurd (one-role (r .fixed .role) role (n .rightRole))
-  names-right r′ a b (accepts role) made = right-accepts asked answered l r n (c .ask) (made refl)
-  names-right r′ a b falls made = right-lives asked answered l r n Idle (λ alive. absurd (alive refl))
-  names-right r′ a b (begins is) made = right-speaks Opening _ refl (right-alive Calling is (apart Calling Idle refl))
-  names-right r′ a b (greets h hears) made = right-speaks Answering _ refl (right-alive Greeted (hears .lives) (apart Greeted Idle refl))
-  names-right r′ a b (measures h low high hears m) made =
-      right-speaks Settling _ refl (right-alive Opening (hears .lives) (apart Opening Idle refl))
-  names-right r′ a b (estimates h low high hears m) made =
-      right-speaks Closing _ refl (right-alive Answering (hears .lives) (apart Answering Idle refl))
-  names-right r′ a b (finishes h low high hears) made =
-      right-speaks Up _ refl (right-alive Settling (hears .lives) (apart Settling Idle refl))
-  names-right r′ a b (rises h hears) made =
-      right-lives asked answered l r n Up (λ _. right-alive Closing (hears .lives) (apart Closing Idle refl))
-  names-right r′ a b (delivers h train hears young) made = n
-  names-right r′ a b (quiets none) made = n
-  names-right r′ a b (beats is) made = right-sends asked answered l r n _ refl (right-alive Up is (apart Up Idle refl))
-  names-right r′ a b (speaks is mark ok) made = right-sends asked answered l r n _ refl (right-alive Up is (apart Up Idle refl))
-  names-right r′ a b (drains d rest is queue ok) made = right-sends asked answered l r n _ refl (right-alive Up is (apart Up Idle refl))
-  names-right r′ a b (holds is mark) made = n
+    pub names-right : (r′ : View) → Joined r → Change time c r r′ → Names asked answered l r′
+    names-right r′ joined falls =
+        record { made = n .made; asker = n .asker; answerer = record { in-one = λ alive. absurd (alive refl); log = n .answerer .log } }
+    names-right r′ joined (gauges pair none) = n
+    names-right r′ joined (lives life k) =
+        record {
+          made = n .made;
+          asker = n .asker;
+          answerer = record { in-one = λ _. n .answerer .in-one (k .alive); log = n .answerer .log };
+        }
+    names-right r′ joined (serves user k) = n
+    names-right r′ joined (sends m user k t) =
+        record {
+          made = n .made;
+          asker = n .asker;
+          answerer = record {
+            in-one = n .answerer .in-one;
+            log = with-new m (r .story .log) (λ (j : Note). Among (j .letter .connection) answered)
+                (subst (λ (i : ℕ). Among i answered) (sym (k .connection))
+                (n .answerer .in-one (k .alive) (joined .in-one (k .alive) (k .greeted))))
+                (n .answerer .log);
+          };
+        }
+    names-right r′ joined (hears h body k) = n
+    names-right r′ joined (delivers h body k up six young) = n

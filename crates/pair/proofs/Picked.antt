@@ -3,7 +3,7 @@ use mathlib.Core.Bool.{Bool, true, false, cond, false≢true}
 use mathlib.Core.List.{List, [], _∷_}
 use mathlib.Core.Logic.{inl, inr}
 use mathlib.Core.Path.{_≡_, refl, sym, ap, subst}
-use Rattle.pair.specs.Among.{Picked}
+use Rattle.pair.specs.Among.{Among, Picked}
 
 abbrev isEmpty : {A : Type 0} → List A → Bool
 isEmpty [] = true
@@ -44,3 +44,14 @@ picked-both false a b xs ys same p = p
 pub picked-skip : {A : Type 0} (t : Bool) (b : A) (xs ys : List A) → Picked xs ys → Picked xs (cond t (b ∷ ys) ys)
 picked-skip true b xs ys p = inr p
 picked-skip false b xs ys p = p
+
+-- what was picked is there
+among-step : {A : Type 0} (a y : A) (xs ys : List A) → (Among a xs → Among a ys) → Among a (y ∷ xs) → Among a (y ∷ ys)
+among-step a y xs ys step (inl is) = inl is
+among-step a y xs ys step (inr i) = inr (step i)
+
+pub picked-among : {A : Type 0} (a : A) (xs ys : List A) → Picked xs ys → Among a xs → Among a ys
+picked-among a xs [] p i = subst (λ (l : List _). Among a l) p i
+picked-among a xs (y ∷ ys) (inr p) i = inr (picked-among a xs ys p i)
+picked-among {A} a xs (y ∷ ys) (inl p) i =
+    among-step a y (p .0) ys (picked-among a (p .0) ys (p .2)) (subst (λ (l : List A). Among a l) (p .1) i)

@@ -1,22 +1,22 @@
--- What the claims look at of a side, and the few ways in which it changes.
+-- What is looked at of a side, in parts that change together, and the ways in which these change.
 use Prim.Native.Nat.{ℕ, _+_, _%_, _^_}
-use mathlib.Core.Bool.{Bool, true, false, cond}
+use mathlib.Core.Bool.{Bool, false, cond}
 use mathlib.Core.List.{List, [], _∷_}
-use lib.ListN.{length}
-use Rattle.judge.specs.declared.clock.Offset.{Offset}
+use Rattle.judge.specs.declared.clock.Reading.{Reading}
+use Rattle.judge.specs.declared.clock.Offsets.{Offsets}
 use Rattle.queue.specs.Ring.{entries}
-use Rattle.wire.specs.Message.{encode, dataIn, kindOf}
 use Rattle.wire.specs.declared.message.Header.{Header}
 use Rattle.wire.specs.declared.message.Body.{Body}
-use Rattle.wire.specs.declared.message.Body.the-variants.{OffsetStart, OffsetAnsw1, OffsetAnsw2, OffsetEst, OffsetEnd, LifeSign, TrainData}
 use Rattle.wire.specs.declared.message.Message.{Message}
-use Rattle.wire.specs.declared.message.Parsed.{Parsed}
-use Rattle.wire.specs.declared.message.Parsed.the-variants.{WellFormed, Malformed}
-use Rattle.rules.specs.State.{zeroOffset}
+use Rattle.rules.specs.State.{zeroReading, zeroOffsets}
 use Rattle.rules.specs.declared.state.Role.{Role}
 use Rattle.rules.specs.declared.state.Life.{Life}
 use Rattle.rules.specs.declared.state.Life.the-variants.{Idle}
-use Rattle.pair.specs.World.{Letter, Datum, Delivery, Side}
+use Rattle.rules.specs.declared.state.Echo.{Echo}
+use Rattle.pair.specs.World.{Datum, Delivery, Side, readBy}
+use Rattle.pair.proofs.Notes.{Note, notesOf}
+
+-- ---- the parts
 
 -- what never changes: the role, A, W and the bias
 pub record Fixed : Type 0 where
@@ -25,124 +25,143 @@ pub record Fixed : Type 0 where
   pub width : ℕ
   pub bias : ℕ
 
+-- the numbers of a connection, as the end holds them and as they are counted without wrapping
+pub record Count : Type 0 where
+  pub next : ℕ
+  pub last : ℕ
+  pub sent : ℕ
+  pub accepted : ℕ
+
+-- the clocks of a connection
+pub record Timing : Type 0 where
+  pub offsets : Offsets
+  pub echo : Echo
+
+-- what the user has to do with: whether data must wait, those that do, and all that were handed in and received
+pub record User : Type 0 where
+  pub busy : Bool
+  pub waiting : List (List ℕ)
+  pub handed : List Datum
+  pub received : List Datum
+
+-- what was sent and what was delivered
+pub record Story : Type 0 where
+  pub log : List Note
+  pub delivered : List Delivery
+
 pub record View : Type 0 where
   pub fixed : Fixed
   pub life : Life
-  pub next : ℕ
-  pub last : ℕ
-  pub minimum : Offset
-  pub maximum : Offset
-  pub echo : ℕ
-  pub receipt : ℕ
-  pub spoke : Bool
-  pub waiting : List (List ℕ)
   pub connection : ℕ
-  pub sent : ℕ
-  pub accepted : ℕ
-  pub log : List Letter
-  pub handed : List Datum
-  pub received : List Datum
-  pub delivered : List Delivery
+  pub count : Count
+  pub timing : Timing
+  pub user : User
+  pub story : Story
 
 abbrev pub viewOf : Side → View
 viewOf s =
+    let line = s .end .line in
     record {
       fixed = record { role = s .end .role; limit = s .end .settings .age; width = s .end .settings .spread; bias = s .bias };
       life = s .end .life;
-      next = s .end .line .next;
-      last = s .end .line .last;
-      minimum = s .end .line .minimum;
-      maximum = s .end .line .maximum;
-      echo = s .end .line .echo .0;
-      receipt = s .end .line .receipt .0;
-      spoke = s .end .line .spoke;
-      waiting = entries (s .queue) (s .end .ring);
       connection = s .connection;
-      sent = s .sent;
-      accepted = s .accepted;
-      log = s .log;
-      handed = s .handed;
-      received = s .received;
-      delivered = s .delivered;
+      count = record { next = line .numbers .next; last = line .numbers .last; sent = s .sent; accepted = s .accepted };
+      timing = record { offsets = line .offsets; echo = line .echo };
+      user = record { busy = line .busy; waiting = entries (s .queue) (s .end .ring); handed = s .handed; received = s .received };
+      story = record { log = notesOf (s .log); delivered = s .delivered };
     }
 
--- the kind that bytes read as; 0 where they read as no message
-abbrev pub kindIn : Parsed → ℕ
-kindIn (WellFormed m) = kindOf (m .body)
-kindIn Malformed = 0
-
--- whether a body is train data, and whether bytes read as such
-abbrev pub isTrain : Body → Bool
-isTrain OffsetStart = false
-isTrain OffsetAnsw1 = false
-isTrain OffsetAnsw2 = false
-isTrain (OffsetEst minimum maximum) = false
-isTrain OffsetEnd = false
-isTrain LifeSign = false
-isTrain TrainData = true
-
-abbrev pub trainIn : Parsed → Bool
-trainIn (WellFormed m) = isTrain (m .body)
-trainIn Malformed = false
+-- the reading of a side's clock at a time
+abbrev pub clockAt : ℕ → View → Reading
+clockAt time x = record { 0 = readBy (x .fixed .bias) time }
 
 -- ---- ways to change
 
+abbrev viewBy : Fixed → Life → ℕ → Count → Timing → User → Story → View
+viewBy fixed life connection count timing user story =
+    record { fixed = fixed; life = life; connection = connection; count = count; timing = timing; user = user; story = story }
+
 -- another life
 abbrev pub living : Life → View → View
-living life x =
-    record { fixed = x .fixed; life = life; next = x .next; last = x .last; minimum = x .minimum; maximum = x .maximum; echo = x .echo; receipt = x .receipt; spoke = x .spoke; waiting = x .waiting; connection = x .connection; sent = x .sent; accepted = x .accepted; log = x .log; handed = x .handed; received = x .received; delivered = x .delivered }
+living life x = viewBy (x .fixed) life (x .connection) (x .count) (x .timing) (x .user) (x .story)
+
+-- other offsets
+abbrev pub gauging : Offsets → View → View
+gauging pair x =
+    viewBy (x .fixed) (x .life) (x .connection) (x .count) (record { offsets = pair; echo = x .timing .echo }) (x .user) (x .story)
+
+-- the user's part changes
+abbrev pub serving : User → View → View
+serving user x = viewBy (x .fixed) (x .life) (x .connection) (x .count) (x .timing) user (x .story)
 
 -- a message is accepted
-abbrev pub hearing : ℕ → Header → ℕ → View → View
+abbrev pub hearing : Reading → Header → ℕ → View → View
 hearing at h index x =
-    record { fixed = x .fixed; life = x .life; next = x .next; last = h .number; minimum = x .minimum; maximum = x .maximum; echo = h .sent; receipt = at; spoke = x .spoke; waiting = x .waiting; connection = x .connection; sent = x .sent; accepted = index + 1; log = x .log; handed = x .handed; received = x .received; delivered = x .delivered }
+    viewBy (x .fixed) (x .life) (x .connection)
+    (record { next = x .count .next; last = h .number; sent = x .count .sent; accepted = index + 1 })
+    (record { offsets = x .timing .offsets; echo = record { peer = h .stamps .sent; own = at } }) (x .user) (x .story)
 
--- the offsets are measured, and a life begins that has them
-abbrev pub measuring : Offset → Offset → Life → View → View
-measuring low high life x =
-    record { fixed = x .fixed; life = life; next = x .next; last = x .last; minimum = low; maximum = high; echo = x .echo; receipt = x .receipt; spoke = x .spoke; waiting = x .waiting; connection = x .connection; sent = x .sent; accepted = x .accepted; log = x .log; handed = x .handed; received = x .received; delivered = x .delivered }
+-- one is delivered
+abbrev pub delivering : Delivery → View → View
+delivering d x =
+    viewBy (x .fixed) (x .life) (x .connection) (x .count) (x .timing) (x .user)
+    (record { log = x .story .log; delivered = d ∷ x .story .delivered })
 
 -- a message leaves
-abbrev pub sending : Letter → View → View
-sending l x =
-    record { fixed = x .fixed; life = x .life; next = (x .next + 1) % 2 ^ 16; last = x .last; minimum = x .minimum; maximum = x .maximum; echo = x .echo; receipt = x .receipt; spoke = x .spoke; waiting = x .waiting; connection = x .connection; sent = x .sent + 1; accepted = x .accepted; log = l ∷ x .log; handed = x .handed; received = x .received; delivered = x .delivered }
+abbrev pub sending : Note → View → View
+sending n x =
+    viewBy (x .fixed) (x .life) (x .connection)
+    (record { next = (x .count .next + 1) % 2 ^ 16; last = x .count .last; sent = x .count .sent + 1; accepted = x .count .accepted })
+    (x .timing) (x .user) (record { log = n ∷ x .story .log; delivered = x .story .delivered })
+
+-- nothing is left of a connection
+abbrev blank : Timing
+blank = record { offsets = zeroOffsets; echo = record { peer = zeroReading; own = zeroReading } }
+
+abbrev emptied : User → User
+emptied u = record { busy = false; waiting = []; handed = u .handed; received = u .received }
 
 -- a connection begins
 abbrev pub entering : Life → ℕ → View → View
 entering life name x =
-    record { fixed = x .fixed; life = life; next = 0; last = 65_535; minimum = zeroOffset; maximum = zeroOffset; echo = 0; receipt = 0; spoke = false; waiting = []; connection = name; sent = 0; accepted = 0; log = x .log; handed = x .handed; received = x .received; delivered = x .delivered }
+    viewBy (x .fixed) life name (record { next = 0; last = 65_535; sent = 0; accepted = 0 }) blank (emptied (x .user)) (x .story)
 
 -- a connection ends
 abbrev pub falling : View → View
 falling x =
-    record { fixed = x .fixed; life = Idle; next = 0; last = 0; minimum = zeroOffset; maximum = zeroOffset; echo = 0; receipt = 0; spoke = false; waiting = []; connection = x .connection; sent = x .sent; accepted = x .accepted; log = x .log; handed = x .handed; received = x .received; delivered = x .delivered }
+    viewBy (x .fixed) Idle (x .connection) (record { next = 0; last = 0; sent = x .count .sent; accepted = x .count .accepted }) blank
+    (emptied (x .user)) (x .story)
 
--- data are handed in
-abbrev pub handing : List ℕ → View → View
-handing d x =
-    record { fixed = x .fixed; life = x .life; next = x .next; last = x .last; minimum = x .minimum; maximum = x .maximum; echo = x .echo; receipt = x .receipt; spoke = x .spoke; waiting = x .waiting; connection = x .connection; sent = x .sent; accepted = x .accepted; log = x .log; handed = record { connection = x .connection; bytes = d } ∷ x .handed; received = x .received; delivered = x .delivered }
+-- ---- the user's part
 
--- other data wait
-abbrev pub leaving : List (List ℕ) → View → View
-leaving rest x =
-    record { fixed = x .fixed; life = x .life; next = x .next; last = x .last; minimum = x .minimum; maximum = x .maximum; echo = x .echo; receipt = x .receipt; spoke = x .spoke; waiting = rest; connection = x .connection; sent = x .sent; accepted = x .accepted; log = x .log; handed = x .handed; received = x .received; delivered = x .delivered }
+abbrev pub datumOf : ℕ → List ℕ → Datum
+datumOf c d = record { connection = c; bytes = d }
 
 -- a kind 6 has gone since the last tick, or none has
-abbrev pub marking : Bool → View → View
-marking spoke x =
-    record { fixed = x .fixed; life = x .life; next = x .next; last = x .last; minimum = x .minimum; maximum = x .maximum; echo = x .echo; receipt = x .receipt; spoke = spoke; waiting = x .waiting; connection = x .connection; sent = x .sent; accepted = x .accepted; log = x .log; handed = x .handed; received = x .received; delivered = x .delivered }
+abbrev pub marked : Bool → User → User
+marked busy u = record { busy = busy; waiting = u .waiting; handed = u .handed; received = u .received }
 
--- a data message is delivered, and train data go to the user
-abbrev pub delivering : Delivery → Bool → View → View
-delivering d train x =
-    record { fixed = x .fixed; life = x .life; next = x .next; last = x .last; minimum = x .minimum; maximum = x .maximum; echo = x .echo; receipt = x .receipt; spoke = x .spoke; waiting = x .waiting; connection = x .connection; sent = x .sent; accepted = x .accepted; log = x .log; handed = x .handed; received = cond train (record { connection = x .connection; bytes = dataIn (d .letter .bytes) } ∷ x .received) (x .received); delivered = d ∷ x .delivered }
+-- other data wait
+abbrev pub leaving : List (List ℕ) → User → User
+leaving rest u = record { busy = u .busy; waiting = rest; handed = u .handed; received = u .received }
 
--- the message that goes out at a reading, and how it is noted
-abbrev pub messageOf : ℕ → Body → View → Message
-messageOf at body x = record { header = record { sent = at; echo = x .echo; receipt = x .receipt; number = x .next }; body = body }
+-- data are handed in
+abbrev pub handing : Datum → User → User
+handing d u = record { busy = u .busy; waiting = u .waiting; handed = d ∷ u .handed; received = u .received }
 
-abbrev pub letterOf : ℕ → Message → List ℕ → View → Letter
-letterOf time m d x = record { connection = x .connection; index = x .sent; time = time; place = length (x .log); bytes = encode m d }
+-- data are received, or none are
+abbrev pub receiving : Bool → Datum → User → User
+receiving train d u =
+    record { busy = u .busy; waiting = u .waiting; handed = u .handed; received = cond train (d ∷ u .received) (u .received) }
 
-abbrev pub saying : ℕ → ℕ → Body → List ℕ → View → View
-saying time at body d x = sending (letterOf time (messageOf at body x) d x) x
+-- ---- the message that goes out at a reading
+
+abbrev pub messageOf : Reading → Body → View → Message
+messageOf at body x =
+    record {
+      header = record {
+        stamps = record { sent = at; echo = x .timing .echo .peer; receipt = x .timing .echo .own };
+        number = x .count .next;
+      };
+      body = body;
+    }

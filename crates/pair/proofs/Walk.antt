@@ -1,44 +1,44 @@
--- The one walk through the acts: every event is one of the cases of proofs/Step.antt.
-use Prim.Native.Nat.{ℕ, _+_, _≤_, _<_}
+-- The one walk through the acts: what every event makes of a side is one of the cases of proofs/Change.antt.
+use Prim.Native.Nat.{ℕ, _+_, _≤_}
 use native.Mathlib.Omega.{arith}
-use mathlib.Core.Bool.{Bool, true, false, cond, _&&_, and-eq-true-iff}
-use mathlib.Core.List.{List, [], _∷_, _++_}
-use mathlib.Core.Path.{_≡_, refl, sym, ap, subst, _∙_}
-use borrow.Author.Tests.{eqb-true, leb-true, leb-false, ltb-true, eqb-false}
-use lib.Dec.{leb, ltb, eqb}
+use mathlib.Core.Bool.{Bool, true, false, and-eq-true-iff, false≢true, not}
+use mathlib.Core.List.{List, [], _++_}
+use mathlib.Core.Logic.{_⊎_, inl, inr}
+use mathlib.Core.Path.{_≡_, refl, sym, ap, _∙_}
+use borrow.Author.Tests.{eqb-true, leb-true}
+use lib.Dec.{eqb}
 use lib.ListN.{length, take, drop}
 use lib.Seq.{take-at}
-use Rattle.judge.specs.Difference.{diff}
-use Rattle.judge.specs.Clock.{sameOf, narrowOf, ageOf}
-use Rattle.judge.specs.Sequence.{classAt, classOf}
+use Rattle.judge.proofs.Difference.{diff-fits}
+use Rattle.judge.specs.Clock.{sameOf, narrowOf}
 use Rattle.judge.specs.declared.clock.Reading.{Reading}
-use Rattle.judge.specs.declared.clock.Offset.{Offset}
-use Rattle.judge.specs.declared.sequence.Class.{Class}
-use Rattle.judge.specs.declared.sequence.Class.the-variants.{Expected, Gap, Lost, Old}
-use Rattle.queue.proofs.Claims.{put-comes-last, takes-first, oldest-sendable}
-use Rattle.queue.specs.Ring.{Sendable, size, places, dataFrom, entries, waitingIn, oldestIn, takenFrom, putRing, putBytes}
-use Rattle.queue.specs.declared.Ring.{Ring}
-use Rattle.wire.proofs.Tests.{by-test}
-use Rattle.wire.specs.Message.{parse, longest}
+use Rattle.judge.specs.declared.clock.Offsets.{Offsets}
+use Rattle.queue.proofs.Claims.{oldest-sendable}
+use Rattle.queue.specs.Ring.{size, dataFrom, entries, oldestIn, withoutOldest}
+use Rattle.wire.specs.Claims.{Fits, BodyFits, carried}
+use Rattle.wire.specs.Message.{encode, trainIn, kindOf}
+use Rattle.wire.specs.Writing.{carries}
 use Rattle.wire.specs.declared.message.Header.{Header}
 use Rattle.wire.specs.declared.message.Body.{Body}
 use Rattle.wire.specs.declared.message.Body.the-variants.{OffsetStart, OffsetAnsw1, OffsetAnsw2, OffsetEst, OffsetEnd, LifeSign, TrainData}
-use Rattle.wire.specs.declared.message.Parsed.the-variants.{WellFormed}
-use Rattle.rules.proofs.Decided.{decided}
-use Rattle.rules.proofs.Grounds.{Decided, Taken, Heard, Next, MoveGrounds, ExchangeGrounds, VerdictGrounds, SpeechGrounds, Failure, Fallen}
-use Rattle.rules.proofs.Grounds.Decided.{no-room, went-back, taken}
-use Rattle.rules.proofs.Grounds.Failure.{is-old, is-late}
-use Rattle.rules.proofs.Grounds.Fallen.{by-silence, by-start, by-loss, by-failure}
+use Rattle.wire.specs.declared.message.Message.{Message}
+use Rattle.rules.proofs.Acts.{EachTaken}
+use Rattle.wire.proofs.Carrying.{is-carried}
+use Rattle.rules.proofs.Grounds.{Heard, Next, InReach, NoteGrounds, MoveGrounds, ExchangeGrounds, VerdictGrounds, SpeechGrounds, StayGrounds, bodyOf}
+use Rattle.rules.proofs.Queued.{holds-last, drains-first}
+use Rattle.rules.proofs.Lives.{apart, starting-awake, starting-low}
 use Rattle.rules.specs.Answers.{numberOf}
-use Rattle.rules.specs.Rules.{decideOf, readingIn, minimumBy, maximumBy, measures as measuresIt}
+use Rattle.rules.specs.Hearing.{ageFor, aheadFor}
+use Rattle.rules.specs.Line.{postedLine}
+use Rattle.rules.specs.Perform.{performed}
+use Rattle.rules.specs.Starting.{offsetsFrom, estimateOf, measures}
+use Rattle.rules.specs.State.{phaseOf, isUp}
 use Rattle.rules.specs.declared.answer.Answer.{Answer}
-use Rattle.rules.specs.declared.answer.Answer.the-variants.{ClockBack, NoRoom}
-use Rattle.rules.specs.declared.act.Event.{Event}
-use Rattle.rules.specs.declared.act.Event.the-variants.{Tick, Connect, Confirm, Disconnect, Data, Message}
+use Rattle.rules.specs.declared.act.Event.the-variants.{Message as message}
 use Rattle.rules.specs.declared.act.Act.{Act}
 use Rattle.rules.specs.declared.act.Act.the-variants.{Stay, Note, Move, Start, Hear, Say}
-use Rattle.rules.specs.declared.act.Connection.{Connection}
-use Rattle.rules.specs.declared.act.Connection.the-variants.{Ask, Accept, Lose, Fall}
+use Rattle.rules.specs.declared.act.ConnectionMove.{ConnectionMove}
+use Rattle.rules.specs.declared.act.ConnectionMove.the-variants.{Ask, Accept, Lose, Fall}
 use Rattle.rules.specs.declared.act.Exchange.{Exchange}
 use Rattle.rules.specs.declared.act.Exchange.the-variants.{Begin, Greet, Measure, Estimate, Finish, Rise}
 use Rattle.rules.specs.declared.act.Verdict.{Verdict}
@@ -46,248 +46,304 @@ use Rattle.rules.specs.declared.act.Verdict.the-variants.{Deliver, Report}
 use Rattle.rules.specs.declared.act.Speech.{Speech}
 use Rattle.rules.specs.declared.act.Speech.the-variants.{Quiet, Beat, Speak, Drain, Hold}
 use Rattle.rules.specs.declared.state.Life.{Life}
-use Rattle.rules.specs.declared.state.Life.the-variants.{Opening, Settling, Greeted, Answering, Closing, Up}
-use Rattle.rules.specs.declared.state.End.{End}
-use Rattle.link.specs.Perform.{performed, longer}
-use Rattle.link.specs.Step.{Result, resultOf, effectOf, stepped}
-use Rattle.pair.specs.World.{Side, clockOf}
-use Rattle.pair.specs.Event.{Call, isTaken, bytesBeside, bytesOf, resultAt, asks as asksIn, accepts as acceptsIn}
+use Rattle.rules.specs.declared.state.Phase.the-variants.{Starting as starting}
+use Rattle.rules.specs.declared.state.Life.the-variants.{Idle, Calling, Opening, Settling, Greeted, Answering, Closing, Up}
+use Rattle.run.proofs.Brought.{refused-brings, stay-refused, failure-refused, fall-refused, note-brings, delivered-yes}
+use Rattle.run.proofs.Reach.{in-reach}
+use Rattle.run.proofs.Calls.{entryBy, by-call}
+use Rattle.run.proofs.Choices.{and-false}
+use Rattle.run.specs.Events.{isMessage, isData, asks as asksIn, accepts as acceptsIn}
+use Rattle.run.specs.Run.{Entry}
+use Rattle.pair.specs.World.{Letter, Side, clockOf}
+use Rattle.pair.specs.Happening.{Happening, bytesBeside, callAt, keptOf, resultAt}
 use Rattle.pair.specs.Told.{toldOf}
-use Rattle.pair.proofs.Noted.{Unmoved, NotedIn, noted}
-use Rattle.pair.proofs.View.{viewOf}
-use Rattle.pair.proofs.Step.{Step, Hears, Measured}
-use Rattle.pair.proofs.Step.Step.{rests, asks, accepts, falls, begins, greets, measures, estimates, finishes, rises, delivers, quiets, beats, speaks, drains, holds}
-
--- ---- numbers in their turn
-
-abbrev codeOf : Class → ℕ
-codeOf Expected = 0
-codeOf Gap = 0
-codeOf Lost = 1
-codeOf Old = 1
-
-taken-code : (gap : Bool) → codeOf (cond gap Gap Expected) ≡ 0
-taken-code true = refl
-taken-code false = refl
-
--- what is expected or leaves a gap is ahead
-class-near : (d limit : ℕ) (gap : Bool) → classAt d limit ≡ cond gap Gap Expected → (1 ≤ d) × (d ≤ 32_767)
-class-near d limit gap is = walk (ap codeOf is ∙ taken-code gap)
-  where
-    Near : Class → Type 0
-    Near k = codeOf k ≡ 0 → (1 ≤ d) × (d ≤ 32_767)
-
-    walk : Near (classAt d limit)
-    walk =
-        by-test Near (eqb d 0) (λ t z. absurd (omega arith))
-        (λ t. by-test Near (eqb d 1) (λ u z. let one = eqb-true d 1 u in (omega arith, omega arith))
-        (λ u. by-test Near (leb 32768 d) (λ v z. absurd (omega arith))
-        (λ v. by-test Near (leb d limit)
-        (λ w z. let few : d < 32768 = leb-false 32768 d v in let some = eqb-false d 0 t in (omega arith, omega arith))
-        (λ w z. absurd (omega arith)))))
-
--- ---- answers that move nothing
-
-refused : (event : Event) (n : ℕ) → isTaken n ≡ false → eqb n 0 ≡ false → Unmoved event n
-refused Tick n a b = record { unheard = refl; unsaid = refl }
-refused Connect n a b = record { unheard = refl; unsaid = refl }
-refused Confirm n a b = record { unheard = refl; unsaid = refl }
-refused Disconnect n a b = record { unheard = refl; unsaid = refl }
-refused Data n a b = record { unheard = refl; unsaid = b }
-refused Message n a b = record { unheard = a; unsaid = refl }
-
-failure-unmoved : (e : End) (event : Event) (at : Reading) (b : List ℕ) (a : Answer) → Failure e event at b a → Unmoved event (numberOf a)
-failure-unmoved e event at b a (is-old h train is hears class) = rw is (refused event 9 refl refl)
-failure-unmoved e event at b a (is-late h train gap is hears class stale) = rw is (refused event 11 refl refl)
-
-fall-unmoved : (e : End) (event : Event) (at : Reading) (b : List ℕ) (a : Answer) (error : Bool) → Fallen e event at b a error
-    → Unmoved event (numberOf a)
-fall-unmoved e event at b a error (by-silence is quiet over alive) = rw is (refused event 12 refl refl)
-fall-unmoved e event at b a error (by-start life h body is quiet idle up next) = rw is (refused event 8 refl refl)
-fall-unmoved e event at b a error (by-loss h train is quiet hears class) = rw is (refused event 10 refl refl)
-fall-unmoved e event at b a error (by-failure loud why full) = failure-unmoved e event at b a why
+use Rattle.pair.proofs.Notes.{Note as Noted, noteOf, notesOf, notes-length, note-reads, note-written}
+use Rattle.pair.proofs.View.{View, viewOf, clockAt, living, gauging, serving, sending, marked, messageOf}
+use Rattle.pair.proofs.Change.{Hears, Measured, Lives, Sends, Changes, Step, heard, hasOffsets, isAnswer, isTrain}
+use Rattle.pair.proofs.Change.Change.{falls, gauges, lives, serves, sends, hears, delivers}
+use Rattle.pair.proofs.Change.Takes.{no-data, given, oldest}
+use Rattle.pair.proofs.Change.Waits.{marks, holds}
+use Rattle.pair.proofs.Change.Changes.{done, next}
+use Rattle.pair.proofs.Change.Step.{asks, accepts, goes}
+use Rattle.pair.proofs.Readable.{Widths, clock-wide, heard-wide}
 
 -- ---- each act
 
-module _ (time asked : ℕ) (s : Side) (c : Call) (whole : length (s .queue) ≡ size) where
+module _ (time asked : ℕ) (s : Side) (c : Happening) (whole : length (s .queue) ≡ size)
+    (wide : Widths (s .end .line .numbers .next) (s .end .line .echo)) (fits : c .event ≡ message → Fits (noteOf (c .letter) .message)) where
   abbrev at : Reading
   at = clockOf s time
 
-  abbrev After : Act → Result
-  After act = resultOf (performed (s .end) act at) (bytesOf c) (c .out) (s .queue)
+  abbrev Steps : Entry → Type 0
+  Steps x =
+      Step time asked c (viewOf s) (viewOf (toldOf time asked s c (x .result))) (asksIn (x .result)) (acceptsIn (x .result))
 
-  abbrev Steps : Act → Type 0
-  Steps act =
-      Step time asked c (viewOf s) (viewOf (toldOf time asked s c (After act))) (asksIn (After act)) (acceptsIn (After act))
+  abbrev By : Act → Type 0
+  By act = Steps (entryBy (keptOf s) (callAt time s c) act)
 
-  move-steps : (m : Connection) → MoveGrounds (s .end) (c .event) at (bytesOf c) m → Steps (Move m)
+  move-steps : (m : ConnectionMove) → MoveGrounds (s .end) (c .event) at (bytesBeside c) m → By (Move m)
   unfolding performed
-  move-steps Ask g = rw (g .0) (asks (g .1) (g .2))
-  move-steps Accept g = rw (g .0) (accepts (g .1))
-  move-steps Lose g = rw (g .0) falls
+  move-steps Ask g = rw (ap isMessage (g .0 .comes), ap isData (g .0 .comes), and-false) (asks (g .2))
+  move-steps Accept g = rw (ap isMessage (g .0), ap isData (g .0), and-false) (accepts (g .1))
+  move-steps Lose g = rw (ap isMessage (g .0), ap isData (g .0), and-false) (goes (next falls done))
   move-steps (Fall answer error) g =
-      let u = fall-unmoved (s .end) (c .event) at (bytesOf c) answer error g in rw (u .unheard, u .unsaid) falls
+      let u = refused-brings (c .event) (numberOf answer) (fall-refused (s .end) (c .event) at (bytesBeside c) answer error g) in
+      rw (u .0, u .1, and-false) (goes (next falls done))
 
-  -- a letter that is next, or near
-  hears-next : (life : Life) (h : Header) (body : Body) → Next (s .end) (c .event) at (bytesOf c) life h body
-      → Hears c (viewOf s) life h body
-  hears-next life h body n =
-      let one = eqb-true (diff 16 (h .number) (s .end .line .last)) 1 (n .next) in
-      record { comes = n .hearing .comes; lives = n .hearing .living; reads = reads; ahead = omega arith; near = omega arith }
-    where
-      reads : parse (c .letter .bytes) ≡ WellFormed (record { header = h; body = body })
-      reads =
-          subst (λ (e : Event). parse (bytesBeside e c) ≡ WellFormed (record { header = h; body = body })) (n .hearing .comes)
-          (n .hearing .reads)
+  -- ---- what comes
 
-  measured : (h : Header) (low high : Offset) → measuresIt (s .end) at h ≡ true → low ≡ minimumBy (s .end) h → high ≡ maximumBy at h
-      → Measured time (viewOf s) h low high
-  measured h low high ok least most =
-      let both = and-eq-true-iff (sameOf (readingIn (h .echo)) (s .end .line .posted))
-      (narrowOf (minimumBy (s .end) h) (maximumBy at h) (s .end .settings .spread)) .0 ok in
-      let same = eqb-true (h .echo) (s .end .line .posted .0) (both .0) in
+  hears-as : (life : Life) (h : Header) (body : Body) → Heard (s .end) (c .event) at (bytesBeside c) life h body → (life ≡ Idle → ⊥)
+      → (1 ≤ aheadFor (s .end) h) × (aheadFor (s .end) h ≤ 32_767) → Hears c (viewOf s) h body
+  hears-as life h body g alive d =
       record {
-        least = ap (λ (o : Offset). o .0) least ∙ ap (λ (n : ℕ). diff 32 n (h .receipt)) (sym same);
-        most = ap (λ (o : Offset). o .0) most;
-        narrow = rw (least, most) (leb-true _ _ (both .1));
+        comes = g .comes;
+        alive = λ idle. alive (sym (g .living) ∙ idle);
+        says = note-reads (c .letter) (record { header = h; body = body }) (rw (g .comes) at (g .reads)) .0;
+        ahead = d .0;
+        near = d .1;
       }
 
-  -- what stands at the front of the output is what was put there
-  fronted : (b : List ℕ) → take (length b) (b ++ drop (length b) (c .out)) ≡ b
-  fronted b = take-at b (drop (length b) (c .out)) (length b) refl
+  hears-next : (life : Life) (h : Header) (body : Body) → Next (s .end) (c .event) at (bytesBeside c) life h body → (life ≡ Idle → ⊥)
+      → Hears c (viewOf s) h body
+  hears-next life h body g alive =
+      let one = eqb-true (aheadFor (s .end) h) 1 (g .next) in hears-as life h body (g .hearing) alive (omega arith, omega arith)
 
-  start-steps : (x : Exchange) → ExchangeGrounds (s .end) (c .event) at (bytesOf c) x → Steps (Start x)
+  -- ---- what goes out
+
+  -- the letter of a message, and how it is noted
+  abbrev posted : Message → List ℕ → Letter
+  posted m d =
+      record {
+        connection = s .connection;
+        index = s .sent;
+        time = time;
+        place = length (s .log);
+        bytes = take (length (encode m d)) (encode m d ++ drop (length (encode m d)) (c .out));
+      }
+
+  abbrev noted : Message → List ℕ → Noted
+  noted m d = record { letter = posted m d; message = m; train = carried (m .body) d }
+
+  -- what a view of this side sends
+  record Goes (x : View) (body : Body) (d : List ℕ) : Type 0 where
+    notes : noteOf (posted (messageOf (clockAt time x) body x) d) ≡ noted (messageOf (clockAt time x) body x) d
+    sent : Sends time x (noted (messageOf (clockAt time x) body x) d)
+
+  go : (x : View) (body : Body) (d : List ℕ) → x .connection ≡ s .connection → x .count .sent ≡ s .sent
+      → x .story .log ≡ notesOf (s .log) → (x .life ≡ Idle → ⊥) → (x .life ≡ Greeted → 1 ≤ x .count .accepted)
+      → (isAnswer body ≡ true → 1 ≤ x .count .accepted) → (kindOf body ≡ 6 → x .life ≡ Up)
+      → Widths (x .count .next) (x .timing .echo) → BodyFits body → carries body d ≡ true → Goes x body d
+  go x body d name sent log alive greeted answer up w small ok =
+      let m = messageOf (clockAt time x) body x in
+      let b = take-at (encode m d) (drop (length (encode m d)) (c .out)) (length (encode m d)) refl in
+      let f : Fits m = record { number = w .number; sent = clock-wide time x; echo = w .peer; receipt = w .own; body = small } in
+      let n = note-written (posted m d) m d b f ok in
+      record {
+        notes = n .1;
+        sent = record {
+          alive = alive;
+          greeted = greeted;
+          header = refl;
+          answer = answer;
+          up = up;
+          reads = n .0;
+          fits = f;
+          connection = sym name;
+          index = sym sent;
+          when = refl;
+          place = sym (notes-length (s .log)) ∙ ap length (sym log);
+        };
+      }
+
+  record Answered (x : View) (body : Body) : Type 0 where
+    notes : noteOf (posted (messageOf (clockAt time x) body x) []) ≡ noted (messageOf (clockAt time x) body x) []
+    chain : Changes time c (viewOf s) (sending (noted (messageOf (clockAt time x) body x) []) x)
+
+  -- the offsets of an end that begins to measure
+  abbrev posting : Offsets
+  posting = postedLine (s .end .line) at .offsets
+
+  -- a start goes on to another life
+  goes-on : (x : View) (from to : Life) → x .life ≡ from → phaseOf from ≡ starting → (from ≡ Greeted → 1 ≤ x .count .accepted)
+      → (to ≡ Up → 1 ≤ x .count .accepted) → (hasOffsets to ≡ true → (hasOffsets (x .life) ≡ true) ⊎ Measured time c x)
+      → Lives time c x to
+  goes-on x from to is phase met some measured =
+      record {
+        alive = λ idle. starting-awake from phase (sym is ∙ idle);
+        greeted = λ greeted. met (sym is ∙ greeted);
+        low = λ up. starting-low from phase (sym is ∙ up);
+        heard = some;
+        measured = measured;
+      }
+
+  some : (n : ℕ) → 1 ≤ n + 1
+  some n = omega arith
+
+  -- a message of the start is accepted
+  abbrev hearing : Header → View
+  hearing h = heard time c h (viewOf s)
+
+  -- the pair that it gives is within W
+  measured : (h : Header) (body : Body) → isAnswer body ≡ true → measures (s .end) at h ≡ true → Hears c (viewOf s) h body
+      → Measured time c (gauging (offsetsFrom h at) (hearing h))
+  measured h body answers ok k =
+      let both = and-eq-true-iff (sameOf (h .stamps .echo) (s .end .line .offsets .since))
+      (narrowOf (offsetsFrom h at) (s .end .settings .spread)) .0 ok in
+      record { header = h; body = body; comes = k .comes; says = k .says; answer = answers; pair = refl; narrow = leb-true _ _ (both .1) }
+
+  -- and answered, with other offsets and in another life
+  abbrev answering : Header → Offsets → Life → View
+  answering h pair to = living to (gauging pair (hearing h))
+
+  answer : (from to : Life) (h : Header) (came body : Body) (pair : Offsets) → Next (s .end) (c .event) at (bytesBeside c) from h came
+      → phaseOf from ≡ starting → phaseOf to ≡ starting → hasOffsets from ≡ false
+      → (Hears c (viewOf s) h came → hasOffsets to ≡ true → Measured time c (gauging pair (hearing h)))
+      → isTrain body ≡ false → (kindOf body ≡ 6 → ⊥) → BodyFits body → carries body [] ≡ true
+      → Answered (answering h pair to) body
+  answer from to h came body pair g low still bare found plain start small ok =
+      let is = g .hearing .living in
+      let k = hears-next from h came g (starting-awake from low) in
+      let o = go (answering h pair to) body [] refl refl refl (starting-awake to still) (λ _. some (c .letter .index))
+      (λ _. some (c .letter .index)) (λ t. absurd (start t)) (heard-wide time c (viewOf s) h came wide k (fits (k .comes))) small ok in
+      record {
+        notes = o .notes;
+        chain =
+            next (hears h came k)
+            (next (gauges pair (ap hasOffsets is ∙ bare))
+            (next (lives to (goes-on (gauging pair (hearing h)) from to is low (λ _. some (c .letter .index))
+            (λ up. absurd (starting-low to still up)) (λ t. inr (found k t))))
+            (next (sends _ _ (o .sent) (no-data plain)) done)));
+      }
+
+  -- and the end comes Up, where nothing has gone yet
+  abbrev calm : Header → View
+  calm h = serving (marked false (viewOf s .user)) (hearing h)
+
+  rise : (from : Life) (h : Header) → s .end .life ≡ from → phaseOf from ≡ starting → hasOffsets from ≡ true → {y : View}
+      → Changes time c (living Up (calm h)) y → Changes time c (hearing h) y
+  rise from h is low gauged rest =
+      next (serves _ (marks false (λ up. absurd (starting-low from low (sym is ∙ up)))))
+      (next (lives Up (goes-on (calm h) from Up is low (λ _. some (c .letter .index)) (λ _. some (c .letter .index))
+      (λ _. inl (ap hasOffsets is ∙ gauged)))) rest)
+
+  start-steps : (x : Exchange) → ExchangeGrounds (s .end) (c .event) at (bytesBeside c) x → By (Start x)
   unfolding performed
-  start-steps Begin g = rw (g .0, fronted) (begins (g .2))
-  start-steps (Greet h) g =
-      let n = hears-next Greeted h OffsetStart g in
-      rw (g .hearing .comes, g .hearing .living, fronted)
-      (greets h (record { comes = refl; lives = refl; reads = n .reads; ahead = n .ahead; near = n .near }))
-  start-steps (Measure h low high) g =
-      let n = hears-next Opening h OffsetAnsw1 (g .0) in
-      let m = measured h low high (g .1) (g .2) (g .3) in
-      rw (g .0 .hearing .comes, g .0 .hearing .living, fronted)
-      (measures h low high (record { comes = refl; lives = refl; reads = n .reads; ahead = n .ahead; near = n .near })
-      (record { least = m .least; most = m .most; narrow = m .narrow }))
-  start-steps (Estimate h low high) g =
-      let n = hears-next Answering h OffsetAnsw2 (g .0) in
-      let m = measured h low high (g .1) (g .2) (g .3) in
-      rw (g .0 .hearing .comes, g .0 .hearing .living, fronted)
-      (estimates h low high (record { comes = refl; lives = refl; reads = n .reads; ahead = n .ahead; near = n .near })
-      (record { least = m .least; most = m .most; narrow = m .narrow }))
-  start-steps (Finish h) g =
-      let n = hears-next Settling h (OffsetEst (g .0) (g .1)) (g .2) in
-      rw (g .2 .hearing .comes, g .2 .hearing .living, fronted)
-      (finishes h (g .0) (g .1) (record { comes = refl; lives = refl; reads = n .reads; ahead = n .ahead; near = n .near }))
+  start-steps (Begin body) g =
+      let o = go (living Opening (gauging posting (viewOf s))) OffsetStart [] refl refl refl (apart Opening Idle refl)
+      (λ t. absurd (apart Opening Greeted refl t)) (λ t. absurd (false≢true t)) (λ t. absurd (omega arith)) wide tt refl in
+      rw (g .2, ap isMessage (g .0 .comes), ap isData (g .0 .comes), and-false, o .notes)
+      (goes (next (gauges posting (ap hasOffsets (g .1)))
+      (next (lives Opening (goes-on _ Calling Opening (g .1) refl (λ t. absurd (apart Calling Greeted refl t))
+      (λ t. absurd (apart Opening Up refl t)) (λ t. absurd (false≢true t))))
+      (next (sends _ _ (o .sent) (no-data refl)) done))))
+  start-steps (Greet w) g =
+      let n = g .2 .hearing in
+      let e = answer Greeted Answering (g .0) OffsetStart OffsetAnsw1 posting (g .2) refl refl refl (λ k t. absurd (false≢true t)) refl
+      (λ z. omega arith) tt refl in
+      rw (g .1, ap isMessage (n .comes), ap isData (n .comes), ap isUp (n .living), e .notes) (goes (e .chain))
+  start-steps (Measure m) g =
+      let n = g .2 .hearing in
+      let e = answer Opening Settling (g .0) OffsetAnsw1 OffsetAnsw2 (offsetsFrom (g .0) at) (g .2) refl refl refl
+      (λ k t. measured (g .0) OffsetAnsw1 refl (g .3) k) refl (λ z. omega arith) tt refl in
+      rw (g .1, ap isMessage (n .comes), ap isData (n .comes), ap isUp (n .living), e .notes) (goes (e .chain))
+  start-steps (Estimate m) g =
+      let h = g .0 in
+      let n = g .2 .hearing in
+      let e = answer Answering Closing h OffsetAnsw2 (estimateOf (offsetsFrom h at)) (offsetsFrom h at) (g .2) refl refl refl
+      (λ k t. measured h OffsetAnsw2 refl (g .3) k) refl (λ z. omega arith)
+      (diff-fits 32 (h .stamps .echo .0) (h .stamps .receipt .0), diff-fits 32 (at .0) (h .stamps .sent .0)) refl in
+      rw (g .1, ap isMessage (n .comes), ap isData (n .comes), ap isUp (n .living), e .notes) (goes (e .chain))
+  start-steps (Finish w) g =
+      let h = g .0 in
+      let n = g .4 .hearing in
+      let k = hears-next Settling h (OffsetEst (g .1) (g .2)) (g .4) (apart Settling Idle refl) in
+      let o = go (living Up (calm h)) OffsetEnd [] refl refl refl (apart Up Idle refl) (λ _. some (c .letter .index))
+      (λ _. some (c .letter .index)) (λ t. absurd (omega arith))
+      (heard-wide time c (viewOf s) h (OffsetEst (g .1) (g .2)) wide k (fits (k .comes))) tt refl in
+      rw (g .3, ap isMessage (n .comes), ap isData (n .comes), ap isUp (n .living), o .notes)
+      (goes (next (hears h (OffsetEst (g .1) (g .2)) k) (rise Settling h (n .living) refl refl (next (sends _ _ (o .sent) (no-data refl)) done))))
   start-steps (Rise h) g =
-      let n = hears-next Closing h OffsetEnd g in
-      rw (g .hearing .comes, g .hearing .living)
-      (rises h (record { comes = refl; lives = refl; reads = n .reads; ahead = n .ahead; near = n .near }))
+      let n = g .hearing in
+      rw (ap isMessage (n .comes), ap isData (n .comes), ap isUp (n .living))
+      (goes (next (hears h OffsetEnd (hears-next Closing h OffsetEnd g (apart Closing Idle refl))) (rise Closing h (n .living) refl refl done)))
 
-  hears-near : (h : Header) (train gap : Bool)
-      → Heard (s .end) (c .event) at (bytesOf c) Up h (cond train TrainData LifeSign)
-      → classOf (h .number) (s .end .line .last) (s .end .settings .jump) ≡ cond gap Gap Expected
-      → Hears c (viewOf s) Up h (cond train TrainData LifeSign)
-  hears-near h train gap n class =
-      let d = class-near (diff 16 (h .number) (s .end .line .last)) (s .end .settings .jump) gap class in
-      record { comes = n .comes; lives = n .living; reads = reads; ahead = d .0; near = d .1 }
-    where
-      reads : parse (c .letter .bytes) ≡ WellFormed (record { header = h; body = cond train TrainData LifeSign })
-      reads =
-          subst (λ (e : Event). parse (bytesBeside e c) ≡ WellFormed (record { header = h; body = cond train TrainData LifeSign }))
-          (n .comes) (n .reads)
+  -- ---- while Up
 
-  deliver-steps : (h : Header) (train gap : Bool) → VerdictGrounds (s .end) (c .event) at (bytesOf c) (Deliver h train gap)
-      → Steps (Hear (Deliver h train gap))
+  deliver-steps : (h : Header) (age skipped : ℕ) (train : Bool)
+      → Heard (s .end) (c .event) at (bytesBeside c) Up h (bodyOf (s .end) (c .event) at (bytesBeside c) train)
+      → InReach (s .end) (c .event) at (bytesBeside c) h → ageFor (s .end) at h ≤ s .end .settings .age
+      → By (Hear (Deliver (record { header = h; age = age; skipped = skipped; train = train })))
   unfolding performed
-  deliver-steps h true true g =
-      let n = hears-near h true true (g .0) (g .1) in
-      let young = leb-true (ageOf at (readingIn (h .sent)) (s .end .line .minimum)) (s .end .settings .age) (g .2) in
-      rw (g .0 .comes, g .0 .living, fronted)
-      (delivers h true (record { comes = refl; lives = refl; reads = n .reads; ahead = n .ahead; near = n .near }) young)
-  deliver-steps h true false g =
-      let n = hears-near h true false (g .0) (g .1) in
-      let young = leb-true (ageOf at (readingIn (h .sent)) (s .end .line .minimum)) (s .end .settings .age) (g .2) in
-      rw (g .0 .comes, g .0 .living, fronted)
-      (delivers h true (record { comes = refl; lives = refl; reads = n .reads; ahead = n .ahead; near = n .near }) young)
-  deliver-steps h false true g =
-      let n = hears-near h false true (g .0) (g .1) in
-      let young = leb-true (ageOf at (readingIn (h .sent)) (s .end .line .minimum)) (s .end .settings .age) (g .2) in
-      rw (g .0 .comes, g .0 .living)
-      (delivers h false (record { comes = refl; lives = refl; reads = n .reads; ahead = n .ahead; near = n .near }) young)
-  deliver-steps h false false g =
-      let n = hears-near h false false (g .0) (g .1) in
-      let young = leb-true (ageOf at (readingIn (h .sent)) (s .end .line .minimum)) (s .end .settings .age) (g .2) in
-      rw (g .0 .comes, g .0 .living)
-      (delivers h false (record { comes = refl; lives = refl; reads = n .reads; ahead = n .ahead; near = n .near }) young)
+  deliver-steps h age skipped true g near young =
+      let reach = in-reach (s .end) (c .event) at (bytesBeside c) h near in
+      let k = hears-as Up h TrainData g (apart Up Idle refl) (reach .some, reach .half) in
+      let b = take-at (trainIn (c .letter .bytes)) (drop (length (trainIn (c .letter .bytes))) (c .out)) (length (trainIn (c .letter .bytes))) refl in
+      let t = note-reads (c .letter) (record { header = h; body = TrainData }) (rw (g .comes) at (g .reads)) .1 in
+      rw (ap isMessage (g .comes), ap isData (g .comes), delivered-yes (not (eqb skipped 0)), ap isUp (g .living), b ∙ sym t)
+      (goes (next (delivers h TrainData k (g .living) refl young) done))
+  deliver-steps h age skipped false g near young =
+      let reach = in-reach (s .end) (c .event) at (bytesBeside c) h near in
+      let k = hears-as Up h LifeSign g (apart Up Idle refl) (reach .some, reach .half) in
+      rw (ap isMessage (g .comes), ap isData (g .comes), delivered-yes (not (eqb skipped 0)), ap isUp (g .living))
+      (goes (next (delivers h LifeSign k (g .living) refl young) done))
 
-  hear-steps : (v : Verdict) → VerdictGrounds (s .end) (c .event) at (bytesOf c) v → Steps (Hear v)
+  hear-steps : (v : Verdict) → VerdictGrounds (s .end) (c .event) at (bytesBeside c) v → By (Hear v)
   unfolding performed
-  hear-steps (Deliver h train gap) g = deliver-steps h train gap g
+  hear-steps (Deliver d) g =
+      deliver-steps (d .header) (d .age) (d .skipped) (d .train) (g .0) (g .2)
+      (leb-true (ageFor (s .end) at (d .header)) (s .end .settings .age) (g .3))
   hear-steps (Report answer failures) g =
-      let u = failure-unmoved (s .end) (c .event) at (bytesOf c) answer (g .0) in rw (u .unheard, u .unsaid) rests
+      let u = refused-brings (c .event) (numberOf answer) (failure-refused (s .end) (c .event) at (bytesBeside c) answer (g .0)) in
+      rw (u .0, u .1, and-false) (goes done)
 
-  sendable : leb 1 (length (c .given)) && leb (length (c .given)) longest ≡ true → Sendable (c .given)
-  sendable ok =
-      let both = and-eq-true-iff (leb 1 (length (c .given))) (leb (length (c .given)) longest) .0 ok in
-      (leb-true 1 (length (c .given)) (both .0), leb-true (length (c .given)) longest (both .1))
+  -- train data go out
+  go-train : (d : List ℕ) → s .end .life ≡ Up → carries TrainData d ≡ true → Goes (viewOf s) TrainData d
+  go-train d up ok =
+      go (viewOf s) TrainData d refl refl refl (λ idle. apart Up Idle refl (sym up ∙ idle)) (λ t. absurd (apart Up Greeted refl (sym up ∙ t)))
+      (λ t. absurd (false≢true t)) (λ _. up) wide tt ok
 
-  some-wait : (waitingIn (s .end .ring) ≡ 0 → ⊥) → 0 < s .end .ring .count
-  some-wait none = omega arith
-
-  none-wait : waitingIn (s .end .ring) ≡ 0 → entries (s .queue) (s .end .ring) ≡ []
-  none-wait none = ap (dataFrom (s .queue) (s .end .ring .head)) none
-
-  put-last : (b : List ℕ) → leb 1 (length b) && leb (length b) longest ≡ true → ltb (waitingIn (s .end .ring)) places ≡ true
-      → entries (putBytes (s .queue) (s .end .ring) b) (longer (s .end .ring)) ≡ entries (s .queue) (s .end .ring) ++ (b ∷ [])
-  put-last b ok free =
-      let both = and-eq-true-iff (leb 1 (length b)) (leb (length b) longest) .0 ok in
-      let r = s .end .ring in
-      subst (λ (k : Ring). entries (putBytes (s .queue) r b) k ≡ entries (s .queue) r ++ (b ∷ [])) fits
-      (put-comes-last (s .queue) r b whole (ltb-true (waitingIn r) places free)
-      (leb-true 1 (length b) (both .0), leb-true (length b) longest (both .1)))
-    where
-      fits : putRing (s .end .ring) b ≡ longer (s .end .ring)
-      fits =
-          let all = and-eq-true-iff (ltb (waitingIn (s .end .ring)) places) (leb 1 (length b) && leb (length b) longest) .1 (free, ok) in
-          rw all
-
-  say-steps : (v : Speech) → SpeechGrounds (s .end) (c .event) at (bytesOf c) v → Steps (Say v)
+  say-steps : (v : Speech) → SpeechGrounds (s .end) (c .event) at (bytesBeside c) v → By (Say v)
   unfolding performed
-  say-steps Quiet g = rw (g .0 .comes) (quiets (none-wait (g .1)))
-  say-steps Beat g = rw (g .0 .comes, fronted) (beats (g .0 .living))
-  say-steps Speak g = rw (g .0 .comes, fronted) (speaks (g .0 .living) (g .2) (sendable (rw (g .0 .comes) at (g .1))))
+  say-steps Quiet g =
+      rw (ap isMessage (g .0 .comes), ap isData (g .0 .comes), and-false)
+      (goes (next (serves _ (marks false (λ _ _. ap (dataFrom (s .queue) (s .end .ring .head)) (g .1)))) done))
+  say-steps Beat g =
+      let up = g .0 .living in
+      let o = go (serving (marked true (viewOf s .user)) (viewOf s)) LifeSign [] refl refl refl (λ idle. apart Up Idle refl (sym up ∙ idle))
+      (λ t. absurd (apart Up Greeted refl (sym up ∙ t))) (λ t. absurd (false≢true t)) (λ _. up) wide tt refl in
+      rw (ap isMessage (g .0 .comes), ap isData (g .0 .comes), and-false, o .notes)
+      (goes (next (serves _ (marks true (λ _ t. absurd (false≢true (sym t))))) (next (sends _ _ (o .sent) (no-data refl)) done)))
+  say-steps Speak g =
+      let o = go-train (c .given) (g .0 .living) (rw (g .0 .comes) at (g .1)) in
+      rw (ap isMessage (g .0 .comes), ap isData (g .0 .comes), and-false, o .notes)
+      (goes (next (sends _ _ (o .sent) (given refl refl (g .0 .living) (g .2))) done))
   say-steps Drain g =
-      rw (g .0 .comes, fronted)
-      (drains (oldestIn (s .queue) (s .end .ring)) (entries (s .queue) (takenFrom (s .end .ring))) (g .0 .living)
-      (takes-first (s .queue) (s .end .ring) (some-wait (g .1))) (oldest-sendable (s .queue) (s .end .ring) whole))
+      let d = oldestIn (s .queue) (s .end .ring) in
+      let fine = oldest-sendable (s .queue) (s .end .ring) whole in
+      let o = go-train d (g .0 .living) (is-carried d (fine .0) (fine .1)) in
+      rw (ap isMessage (g .0 .comes), ap isData (g .0 .comes), and-false, o .notes)
+      (goes (next (sends _ _ (o .sent)
+      (oldest refl (entries (s .queue) (withoutOldest (s .end .ring))) (drains-first (s .end) (c .event) at (bytesBeside c) (s .queue) g)
+      (g .0 .living))) done))
   say-steps Hold g =
-      rw (g .0 .comes, put-last (c .given) (rw (g .0 .comes) at (g .1)) (g .3)) (holds (g .0 .living) (g .2))
+      let last = holds-last (s .end) (c .event) at (bytesBeside c) (s .queue) whole g in
+      rw (ap isMessage (g .0 .comes), ap isData (g .0 .comes), and-false, rw (g .0 .comes) at last)
+      (goes (next (serves _ (holds (g .0 .living) (g .2))) done))
 
-  taken-steps : (act : Act) → NotedIn (c .event) act → Taken (s .end) (c .event) at (bytesOf c) act → Steps act
+  note-steps : (a : Answer) → NoteGrounds (s .end) (c .event) at (bytesBeside c) a → By (Note a)
   unfolding performed
-  taken-steps (Stay answer) n g = absurd g
-  taken-steps (Note answer) n g = rw (n .unheard, n .unsaid) rests
-  taken-steps (Move m) n g = move-steps m g
-  taken-steps (Start x) n g = start-steps x g
-  taken-steps (Hear v) n g = hear-steps v g
-  taken-steps (Say v) n g = say-steps v g
+  note-steps a g =
+      let u = note-brings (s .end) (c .event) at (bytesBeside c) a g in rw (u .0, u .1, and-false) (goes done)
 
-  stay-steps : (answer : Answer) → Unmoved (c .event) (numberOf answer) → Steps (Stay answer)
+  stay-steps : (a : Answer) → StayGrounds (s .end) (c .event) at (bytesBeside c) (length (c .out)) a → By (Stay a)
   unfolding performed
-  stay-steps answer u = rw (u .unheard, u .unsaid) rests
+  stay-steps a g =
+      let u = refused-brings (c .event) (numberOf a) (stay-refused (s .end) (c .event) at (bytesBeside c) (length (c .out)) a g) in
+      rw (u .0, u .1, and-false) (goes done)
 
-  act-steps : (act : Act) → NotedIn (c .event) act → Decided (s .end) (c .event) at (bytesOf c) (length (c .out)) act → Steps act
-  act-steps act n (no-room short is) = subst Steps (sym is) (stay-steps NoRoom (refused (c .event) 14 refl refl))
-  act-steps act n (went-back fits back is) = subst Steps (sym is) (stay-steps ClockBack (refused (c .event) 2 refl refl))
-  act-steps act n (taken fits forth g) = taken-steps act n g
+  each-steps : EachTaken (s .end) (c .event) at (bytesBeside c) By
+  each-steps = record { notes = note-steps; moves = move-steps; starts = start-steps; hears = hear-steps; says = say-steps }
 
--- what one event makes of a side
-pub steps : (time asked : ℕ) (s : Side) (c : Call) → length (s .queue) ≡ size
-    → Step time asked c (viewOf s) (viewOf (toldOf time asked s c (resultAt time s c))) (asksIn (resultAt time s c))
-    (acceptsIn (resultAt time s c))
-unfolding stepped effectOf
-steps time asked s c whole =
-    act-steps time asked s c whole (decideOf (s .end) (c .event) (clockOf s time) (bytesOf c) (length (c .out)))
-    (noted (s .end) (c .event) (clockOf s time) (bytesOf c) (length (c .out)))
-    (decided (s .end) (c .event) (clockOf s time) (bytesOf c) (length (c .out)))
+  -- what one event makes of a side
+  pub steps : Steps (record { before = keptOf s; call = callAt time s c; result = resultAt time s c })
+  steps = by-call (keptOf s) (callAt time s c) Steps stay-steps (λ t. each-steps)

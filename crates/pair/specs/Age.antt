@@ -1,33 +1,34 @@
 -- Claims: the computed age is never below the true one, and above it by no more than the spread.
 use Prim.Native.Nat.{ℕ, _+_, _≤_, _<_}
 use mathlib.Core.Path.{_≡_}
-use Rattle.judge.specs.Clock.{ageOf, spreadOf}
+use Rattle.judge.specs.Clock.{spreadOf}
 use Rattle.judge.specs.Difference.{diff}
 use Rattle.wire.specs.Message.{parse}
 use Rattle.wire.specs.declared.message.Header.{Header}
 use Rattle.wire.specs.declared.message.Body.{Body}
 use Rattle.wire.specs.declared.message.Parsed.the-variants.{WellFormed}
-use Rattle.rules.specs.Rules.{readingIn}
+use Rattle.rules.specs.Claims.{answerOf}
+use Rattle.rules.specs.Hearing.{ageFor}
 use Rattle.rules.specs.declared.act.Event.the-variants.{Message}
 use Rattle.rules.specs.declared.state.Life.the-variants.{Up}
 use Rattle.pair.specs.Among.{Among}
 use Rattle.pair.specs.World.{Letter, Delivery, Side, World, clockOf, trueAge}
 use Rattle.pair.specs.Channel.{MayHandOver}
-use Rattle.pair.specs.Event.{Call, resultAt, answerIn}
+use Rattle.pair.specs.Happening.{Happening, resultAt}
 use Rattle.pair.specs.Run.{Lawful}
 use Rattle.pair.specs.EveryRun.{EveryRun, BothWays}
 
 -- the age that an end works out now for a message with a header
 abbrev pub computedAge : World → Side → Header → ℕ
-computedAge w to h = ageOf (clockOf to (w .time)) (readingIn (h .sent)) (to .end .line .minimum)
+computedAge w to h = ageFor (to .end) (clockOf to (w .time)) h
 
 -- the offset spread that it measured when the connection began
 abbrev pub measuredSpread : Side → ℕ
-measuredSpread to = spreadOf (to .end .line .minimum) (to .end .line .maximum)
+measuredSpread to = spreadOf (to .end .line .offsets)
 
--- by how many ticks that minimum is below the true difference of the two clocks
+-- by how many ticks the minimum is below the true difference of the two clocks
 abbrev pub shortfall : Side → Side → ℕ
-shortfall to from = diff 32 (to .bias) (to .end .line .minimum .0 + from .bias)
+shortfall to from = diff 32 (to .bias) (to .end .line .offsets .minimum .0 + from .bias)
 
 pub record AgeBounded (w : World) (to from : Side) (l : Letter) (h : Header) : Type 0 where
   -- it was sent before now, so the true age is no cut-off difference
@@ -54,11 +55,11 @@ abbrev pub NothingOldDelivered : Type 0
 NothingOldDelivered = EveryRun (BothWays (λ w to from. (d : Delivery) → Among d (to .delivered) → Timely to d))
 
 -- nothing younger than the limit less the spread is called late: the true age and the spread are together above the limit
-pub record LateIndeed (w : World) (to : Side) (c : Call) : Type 0 where
-  pub comes : c .event ≡ Message
-  pub sentBefore : c .letter .time ≤ w .time
-  pub notYoung : to .end .settings .age < trueAge (c .letter) (w .time) + measuredSpread to
+pub record LateIndeed (w : World) (to : Side) (h : Happening) : Type 0 where
+  pub comes : h .event ≡ Message
+  pub sentBefore : h .letter .time ≤ w .time
+  pub notYoung : to .end .settings .age < trueAge (h .letter) (w .time) + measuredSpread to
 
 abbrev pub LateIsNearlyOld : Type 0
 LateIsNearlyOld =
-    EveryRun (BothWays (λ w to from. (c : Call) → Lawful w to from c → answerIn (resultAt (w .time) to c) ≡ 11 → LateIndeed w to c))
+    EveryRun (BothWays (λ w to from. (h : Happening) → Lawful w to from h → answerOf (resultAt (w .time) to h) ≡ 11 → LateIndeed w to h))

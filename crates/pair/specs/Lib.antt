@@ -1,10 +1,11 @@
 pub mod Among
 pub mod World
 pub mod Channel
-pub mod Event
+pub mod Happening
 pub mod Told
 pub mod Run
 pub mod EveryRun
+pub mod Sides
 pub mod Order
 pub mod Age
 pub mod Users

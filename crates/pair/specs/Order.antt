@@ -9,6 +9,7 @@ use Rattle.wire.specs.declared.message.Body.{Body}
 use Rattle.wire.specs.declared.message.Parsed.the-variants.{WellFormed}
 use Rattle.pair.specs.Among.{Among}
 use Rattle.pair.specs.World.{Letter, Delivery, Side}
+use Rattle.pair.specs.Channel.{MayHandOver}
 use Rattle.pair.specs.EveryRun.{EveryRun, BothWays}
 
 -- the place of a message in a log is the number of those sent before it
@@ -45,3 +46,7 @@ pub record RightlyDelivered (from : Side) (d : Delivery) : Type 0 where
 
 abbrev pub OnlyOfThisConnection : Type 0
 OnlyOfThisConnection = EveryRun (BothWays (λ w to from. (d : Delivery) → Among d (to .delivered) → RightlyDelivered from d))
+
+-- nothing was ever sent in connection 0, so a side that accepted without an ask is handed nothing
+abbrev pub NothingComesUnasked : Type 0
+NothingComesUnasked = EveryRun (BothWays (λ w to from. to .connection ≡ 0 → (l : Letter) → MayHandOver (w .time) to from l → ⊥))

@@ -2,42 +2,34 @@
 use Prim.Native.Nat.{ℕ, _+_, _≤_}
 use mathlib.Core.Bool.{true, cond}
 use mathlib.Core.List.{List, [], _∷_}
+use mathlib.Core.Logic.{_⊎_}
 use mathlib.Core.Path.{_≡_}
-use lib.ListN.{length}
-use Rattle.judge.specs.declared.clock.Reading.{Reading}
-use Rattle.queue.specs.Ring.{size}
-use Rattle.rules.specs.Settings.{inRangeOf}
+use lib.Dec.{eqb}
+use Rattle.rules.specs.Step.{Result}
 use Rattle.rules.specs.declared.act.Event.the-variants.{Message}
-use Rattle.rules.specs.declared.settings.Settings.{Settings}
 use Rattle.rules.specs.declared.state.Role.{Role}
 use Rattle.rules.specs.declared.state.Role.the-variants.{Initiator, Called}
-use Rattle.link.specs.Make.{freshEnd}
-use Rattle.link.specs.Step.{Result}
+use Rattle.run.specs.Run.{Making, Sound, begun as made}
+use Rattle.run.specs.Events.{asks, accepts}
 use Rattle.pair.specs.Among.{Among}
 use Rattle.pair.specs.World.{Side, World}
 use Rattle.pair.specs.Channel.{MayHandOver}
-use Rattle.pair.specs.Event.{Call, resultAt, asks, accepts}
+use Rattle.pair.specs.Happening.{Happening, resultAt}
 use Rattle.pair.specs.Told.{toldOf}
 
 -- ---- how it begins
 
--- how an end is made: its settings, the reading at that, the bias of its clock and the bytes of its queue may be any
-pub record Making : Type 0 where
-  pub settings : Settings
-  pub reading : Reading
+-- how a side begins: its end is made, and its clock has a bias
+pub record Origin : Type 0 where
+  pub making : Making
   pub bias : ℕ
-  pub queue : List ℕ
 
--- `make` takes the settings, and the queue has its length
-abbrev pub SoundMaking : Making → Type 0
-SoundMaking m = (inRangeOf (m .settings) ≡ true) × (length (m .queue) ≡ size)
-
-abbrev pub freshSide : Role → Making → Side
-freshSide role m =
+abbrev pub freshSide : Origin → Side
+freshSide o =
     record {
-      end = freshEnd role (m .reading) (m .settings);
-      queue = m .queue;
-      bias = m .bias;
+      end = made (o .making) .end;
+      queue = made (o .making) .queue;
+      bias = o .bias;
       connection = 0;
       sent = 0;
       accepted = 0;
@@ -49,15 +41,21 @@ freshSide role m =
 
 pub record Beginning : Type 0 where
   pub time : ℕ
-  pub left : Making
-  pub right : Making
+  pub left : Origin
+  pub right : Origin
 
-abbrev pub Sound : Beginning → Type 0
-Sound b = SoundMaking (b .left) × SoundMaking (b .right)
+-- `make` takes it, in a role; the reading, the bytes of the queue and the bias may be any
+pub record SoundOrigin (role : Role) (o : Origin) : Type 0 where
+  pub sound : Sound (o .making)
+  pub inRole : o .making .role ≡ role
+
+-- an initiator and a called end
+pub record SoundBeginning (b : Beginning) : Type 0 where
+  pub left : SoundOrigin Initiator (b .left)
+  pub right : SoundOrigin Called (b .right)
 
 abbrev pub begun : Beginning → World
-begun b =
-    record { time = b .time; asks = 0; answered = []; left = freshSide Initiator (b .left); right = freshSide Called (b .right) }
+begun b = record { time = b .time; asks = 0; answered = []; left = freshSide (b .left); right = freshSide (b .right) }
 
 -- ---- moves
 
@@ -65,55 +63,60 @@ pub data Move : Type 0 where
   -- time goes on by so many ticks, or by none
   wait : ℕ → Move
   -- something happens at the initiator, or at the called end
-  atLeft : Call → Move
-  atRight : Call → Move
+  atLeft : Happening → Move
+  atRight : Happening → Move
 
 -- an ask that was made, and that no accept has answered
-pub record Unanswered (w : World) (ask : ℕ) : Type 0 where
+pub record Unanswered (asked : ℕ) (answered : List ℕ) (ask : ℕ) : Type 0 where
   pub some : 1 ≤ ask
-  pub made : ask ≤ w .asks
-  pub notYet : Among ask (w .answered) → ⊥
+  pub made : ask ≤ asked
+  pub notYet : Among ask answered → ⊥
 
--- a message is one that the channel may hand over, and an accept that is really put out answers an ask
-pub record Lawful (w : World) (own other : Side) (c : Call) : Type 0 where
-  pub handsOver : c .event ≡ Message → MayHandOver (w .time) own other (c .letter)
-  pub answersAsk : accepts (resultAt (w .time) own c) ≡ true → Unanswered w (c .ask)
+-- a message is one that the channel may hand over, and an accept that is really put out answers such an ask or none: if none, it
+-- begins no connection
+pub record Lawful (w : World) (own other : Side) (h : Happening) : Type 0 where
+  pub handsOver : h .event ≡ Message → MayHandOver (w .time) own other (h .letter)
+  pub answersAsk : accepts (resultAt (w .time) own h) ≡ true → (h .ask ≡ 0) ⊎ Unanswered (w .asks) (w .answered) (h .ask)
 
 -- anything else may happen
 abbrev pub May : World → Move → Type 0
 May w (wait n) = Unit {0}
-May w (atLeft c) = Lawful w (w .left) (w .right) c
-May w (atRight c) = Lawful w (w .right) (w .left) c
+May w (atLeft h) = Lawful w (w .left) (w .right) h
+May w (atRight h) = Lawful w (w .right) (w .left) h
 
 -- ---- what a move makes of the world
 
 abbrev pub asksAfter : ℕ → Result → ℕ
 asksAfter n r = cond (asks r) (n + 1) n
 
-abbrev pub answeredAfter : List ℕ → Call → Result → List ℕ
-answeredAfter answered c r = cond (accepts r) (c .ask ∷ answered) answered
+-- 0 is no ask
+abbrev pub withAnswer : ℕ → List ℕ → List ℕ
+withAnswer ask answered = cond (eqb ask 0) answered (ask ∷ answered)
 
-abbrev pub sideAfter : World → Side → Call → Side
-sideAfter w s c = toldOf (w .time) (w .asks) s c (resultAt (w .time) s c)
+abbrev pub answeredAfter : List ℕ → Happening → Result → List ℕ
+answeredAfter answered h r = cond (accepts r) (withAnswer (h .ask) answered) answered
+
+abbrev pub sideAfter : World → Side → Happening → Side
+sideAfter w s h = toldOf (w .time) (w .asks) s h (resultAt (w .time) s h)
 
 abbrev pub next : World → Move → World
 next w (wait n) =
     record { time = w .time + n; asks = w .asks; answered = w .answered; left = w .left; right = w .right }
-next w (atLeft c) =
+next w (atLeft h) =
     record {
       time = w .time;
-      asks = asksAfter (w .asks) (resultAt (w .time) (w .left) c);
-      answered = answeredAfter (w .answered) c (resultAt (w .time) (w .left) c);
-      left = sideAfter w (w .left) c;
+      asks = asksAfter (w .asks) (resultAt (w .time) (w .left) h);
+      answered = answeredAfter (w .answered) h (resultAt (w .time) (w .left) h);
+      left = sideAfter w (w .left) h;
       right = w .right;
     }
-next w (atRight c) =
+next w (atRight h) =
     record {
       time = w .time;
-      asks = asksAfter (w .asks) (resultAt (w .time) (w .right) c);
-      answered = answeredAfter (w .answered) c (resultAt (w .time) (w .right) c);
+      asks = asksAfter (w .asks) (resultAt (w .time) (w .right) h);
+      answered = answeredAfter (w .answered) h (resultAt (w .time) (w .right) h);
       left = w .left;
-      right = sideAfter w (w .right) c;
+      right = sideAfter w (w .right) h;
     }
 
 -- ---- runs

@@ -34,7 +34,7 @@ pub record Side : Type 0 where
   pub queue : List ℕ
   -- by how many ticks its clock is ahead of the time; the difference of two biases is any whole number
   pub bias : ℕ
-  -- the connection that it is in, or was in last; 0 before any
+  -- the connection that it is in, or was in last; 0 before any, and when it accepted without an ask
   pub connection : ℕ
   -- how many messages it sent in that connection
   pub sent : ℕ
