@@ -10,12 +10,11 @@ use Rattle.judge.specs.Difference.{diff}
 use Rattle.queue.specs.Ring.{slotBytes, slotData}
 use Rattle.wire.proofs.Tests.{by-test}
 use Rattle.wire.specs.Message.{parse, encode, headerBytes}
-use Rattle.rules.specs.Rules.{decideOf, onEvent}
-use Rattle.rules.specs.declared.answer.Answer.the-variants.{OutOfRange}
-use Rattle.link.specs.Claims.{answerOf}
-use Rattle.link.specs.Perform.{performed}
-use Rattle.link.specs.Step.{effectOf, stepped}
-use Rattle.history.specs.Run.{Making, Sound, Call, Entry, entryOf, after, history}
+use Rattle.rules.specs.Decide.{decideOf, onEvent}
+use Rattle.rules.specs.Claims.{answerOf}
+use Rattle.rules.specs.Perform.{performed}
+use Rattle.rules.specs.Step.{effectOf, stepped}
+use Rattle.run.specs.Run.{Making, Sound, Call, Entry, entryOf, after, history}
 use Rattle.witness.specs.Ends.{initiator}
 use Rattle.witness.specs.Table.{callsIn}
 use Rattle.witness.specs.Initiator.{longRun}
@@ -68,4 +67,4 @@ every-answer n small not-1 =
     (below stands 15 all-stand n (omega arith))
 
 pub one-is-given : OneIsGiven
-one-is-given role at = (OutOfRange, refl, refl)
+one-is-given role at = refl

@@ -4,19 +4,21 @@ use mathlib.Core.Path.{refl}
 use Rattle.judge.specs.Difference.{diff}
 use Rattle.queue.specs.Ring.{slotBytes, slotData}
 use Rattle.wire.specs.Message.{parse, encode, headerBytes}
-use Rattle.rules.specs.Rules.{decideOf, onEvent}
-use Rattle.link.specs.Perform.{performed}
-use Rattle.link.specs.Step.{effectOf, stepped}
-use Rattle.history.specs.Run.{after, history}
+use Rattle.rules.specs.Decide.{decideOf, onEvent}
+use Rattle.rules.specs.Perform.{performed}
+use Rattle.rules.specs.Step.{effectOf, stepped}
+use Rattle.run.specs.Run.{after, history}
 use Rattle.history.specs.Seen.{seen, standsUp}
 use Rattle.history.specs.Failures.{failuresSince}
 use Rattle.history.specs.Reports.{trace}
-use Rattle.history.specs.LifeSigns.{spokenSince}
+use Rattle.history.specs.LifeSigns.{kind6Since}
+use Rattle.history.specs.Echoes.{echoSince}
 use Rattle.history.specs.Numbering.{sentInConnection}
 use Rattle.history.proofs.Failures.{failures-below-limit}
 use Rattle.history.proofs.Reports.{data-only-accepted}
 use Rattle.history.proofs.Release.{released-is-down}
 use Rattle.history.proofs.LifeSigns.{speaks-while-up}
+use Rattle.history.proofs.Echoes.{echoes-last-accepted}
 use Rattle.history.proofs.Numbering.{numbering}
 use Rattle.witness.specs.Ends.{initiator, called, tick, confirm, user}
 use Rattle.witness.specs.Table.{callsIn}
@@ -26,7 +28,7 @@ use Rattle.witness.specs.Failures.{OneFailureStands}
 use Rattle.witness.specs.Reports.{UpsAndDowns, StandsUpTwice, DataInTurn, DataAfterGap}
 use Rattle.witness.specs.Release.{ReleasesUp, ReleasesStarting, ReleasesNothing}
 use Rattle.witness.specs.LifeSigns.{AllSpeak, NoneHasLeft, OneHasLeft}
-use Rattle.witness.specs.Numbering.{SixthIsNumbered, FirstAgain, NumbersEnd}
+use Rattle.witness.specs.Numbering.{SixthIsNumbered, FirstAgain, NumbersEnd, FirstEchoesNothing, SixthEchoesTheLast}
 
 pub one-failure-stands : OneFailureStands
 unfolding seen standsUp failuresSince history after stepped effectOf performed decideOf onEvent parse encode headerBytes slotBytes slotData diff
@@ -69,11 +71,11 @@ all-speak = (
 )
 
 pub none-has-left : NoneHasLeft
-unfolding seen spokenSince history after stepped effectOf performed decideOf onEvent parse encode headerBytes diff
+unfolding seen kind6Since history after stepped effectOf performed decideOf onEvent parse encode headerBytes diff
 none-has-left = (refl, refl)
 
 pub one-has-left : OneHasLeft
-unfolding seen spokenSince history after stepped effectOf performed decideOf onEvent parse encode headerBytes slotBytes slotData diff
+unfolding seen kind6Since history after stepped effectOf performed decideOf onEvent parse encode headerBytes slotBytes slotData diff
 one-has-left = (refl, refl)
 
 pub sixth-is-numbered : SixthIsNumbered
@@ -83,6 +85,14 @@ sixth-is-numbered = (refl, refl, refl, numbering initiator (callsIn untilFull) (
 pub first-again : FirstAgain
 unfolding sentInConnection history after stepped effectOf performed decideOf onEvent parse encode headerBytes slotBytes slotData diff
 first-again = (refl, refl, refl, numbering initiator (tick 200 ∷ callsIn (untilDown ++ resting)) (confirm 201) refl)
+
+pub first-echoes-nothing : FirstEchoesNothing
+unfolding echoSince history after stepped effectOf performed decideOf onEvent parse encode headerBytes slotBytes slotData diff
+first-echoes-nothing = (refl, refl, refl, echoes-last-accepted initiator (tick 100 ∷ []) (confirm 103) refl)
+
+pub sixth-echoes-the-last : SixthEchoesTheLast
+unfolding echoSince history after stepped effectOf performed decideOf onEvent parse encode headerBytes slotBytes slotData diff
+sixth-echoes-the-last = (refl, refl, refl, echoes-last-accepted initiator (callsIn untilFull) (tick 129) refl)
 
 pub numbers-end : NumbersEnd
 unfolding stepped effectOf performed decideOf onEvent encode headerBytes diff

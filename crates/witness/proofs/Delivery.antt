@@ -6,11 +6,12 @@ use lib.Dec.{lit<, lit≤}
 use Rattle.judge.specs.Difference.{diff}
 use Rattle.queue.specs.Ring.{slotBytes, slotData}
 use Rattle.wire.specs.Message.{parse, encode, headerBytes}
-use Rattle.rules.specs.Rules.{decideOf, onEvent}
-use Rattle.link.specs.Perform.{performed}
-use Rattle.link.specs.Step.{effectOf, stepped}
-use Rattle.history.specs.Run.{after}
-use Rattle.history.specs.Delivery.{IsJudged, delivers}
+use Rattle.rules.specs.Decide.{decideOf, onEvent}
+use Rattle.rules.specs.Perform.{performed}
+use Rattle.rules.specs.Step.{effectOf, stepped}
+use Rattle.run.specs.Run.{after}
+use Rattle.run.specs.Events.{delivers}
+use Rattle.history.specs.Delivery.{IsJudged}
 use Rattle.history.proofs.Delivery.{expected-is-delivered, gap-is-delivered, delivered-is-fresh, user-gets-delivered}
 use Rattle.witness.specs.Ends.{initiator, reading, roomy, stamped, lifeSign, train}
 use Rattle.witness.specs.Table.{callsIn, next}

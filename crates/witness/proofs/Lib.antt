@@ -9,7 +9,7 @@ pub mod Bounds
 pub mod Wrap
 pub mod Wire
 pub mod Queue
-pub mod Link
+pub mod OneEvent
 pub mod PairSame
 pub mod PairLawful
 pub mod PairShown
@@ -21,5 +21,6 @@ pub mod PairAges
 pub mod PairEdges
 pub mod PairSpread
 pub mod PairAsks
+pub mod PairUnasked
 pub mod Pieces
 pub mod PairTwice

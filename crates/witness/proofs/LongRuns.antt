@@ -3,10 +3,10 @@ use mathlib.Core.Path.{refl}
 use Rattle.judge.specs.Difference.{diff}
 use Rattle.queue.specs.Ring.{slotBytes, slotData}
 use Rattle.wire.specs.Message.{parse, encode, headerBytes}
-use Rattle.rules.specs.Rules.{decideOf, onEvent}
-use Rattle.link.specs.Perform.{performed}
-use Rattle.link.specs.Step.{effectOf, stepped}
-use Rattle.history.specs.Run.{after, history}
+use Rattle.rules.specs.Decide.{decideOf, onEvent}
+use Rattle.rules.specs.Perform.{performed}
+use Rattle.rules.specs.Step.{effectOf, stepped}
+use Rattle.run.specs.Run.{after, history}
 use Rattle.witness.specs.Initiator.{InitiatorHappens}
 use Rattle.witness.specs.Called.{CalledHappens}
 

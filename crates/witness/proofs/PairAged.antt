@@ -9,8 +9,9 @@ use Rattle.wire.specs.declared.message.Body.the-variants.{TrainData}
 use Rattle.wire.specs.declared.message.Parsed.the-variants.{WellFormed}
 use Rattle.rules.specs.declared.state.Life.the-variants.{Up}
 use Rattle.pair.specs.World.{Letter, Side, World, trueAge}
-use Rattle.pair.specs.Event.{resultAt, answerIn}
-use Rattle.pair.specs.Run.{Beginning, Sound, begun}
+use Rattle.rules.specs.Claims.{answerOf}
+use Rattle.pair.specs.Happening.{resultAt}
+use Rattle.pair.specs.Run.{Beginning, SoundBeginning, begun}
 use Rattle.pair.specs.Run.Move.{wait}
 use Rattle.pair.specs.Age.{computedAge, measuredSpread}
 use Rattle.pair.proofs.Claims.{age-is-bounded, late-is-nearly-old}
@@ -27,7 +28,7 @@ pub record Figures (w : World) (to from : Side) (m : Letter) (h : Header) (age c
   pub computedIs : computedAge w to h ≡ computed
   pub spreadIs : measuredSpread to ≡ spread
 
-module _ (b : Beginning) (xs : List Row) (n : ℕ) (sound : Sound b) (may : runs (begun b) xs ≡ true) (m : Letter) (h : Header) (age computed spread : ℕ) where
+module _ (b : Beginning) (xs : List Row) (n : ℕ) (sound : SoundBeginning b) (may : runs (begun b) xs ≡ true) (m : Letter) (h : Header) (age computed spread : ℕ) where
   abbrev w : World
   w = reachedLater b xs n
 
@@ -44,14 +45,14 @@ module _ (b : Beginning) (xs : List Row) (n : ℕ) (sound : Sound b) (may : runs
       record { may = over; up = f .up; reads = f .reads; trueIs = f .trueIs; computedIs = f .computedIs; spreadIs = f .spreadIs; bounded = all .1 m h TrainData over (f .up) (f .reads) }
 
   pub late-at-left : Figures w (w .left) (w .right) m h age computed spread → isLawful w (w .left) (w .right) (comes m) ≡ true
-      → answerIn (resultAt (w .time) (w .left) (comes m)) ≡ 11 → ComesLate w (w .left) (w .right) m h age computed spread
+      → answerOf (resultAt (w .time) (w .left) (comes m)) ≡ 11 → ComesLate w (w .left) (w .right) m h age computed spread
   late-at-left f lawful is =
       let law = is-lawful w (w .left) (w .right) (comes m) lawful in
       let all = late-is-nearly-old b sound (wait n ∷ movesIn xs) (run-of b xs may, tt) in
       record { aged = aged-at-left f; may = law; answer = is; late = all .0 (comes m) law is }
 
   pub late-at-right : Figures w (w .right) (w .left) m h age computed spread → isLawful w (w .right) (w .left) (comes m) ≡ true
-      → answerIn (resultAt (w .time) (w .right) (comes m)) ≡ 11 → ComesLate w (w .right) (w .left) m h age computed spread
+      → answerOf (resultAt (w .time) (w .right) (comes m)) ≡ 11 → ComesLate w (w .right) (w .left) m h age computed spread
   late-at-right f lawful is =
       let law = is-lawful w (w .right) (w .left) (comes m) lawful in
       let all = late-is-nearly-old b sound (wait n ∷ movesIn xs) (run-of b xs may, tt) in

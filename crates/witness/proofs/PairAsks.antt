@@ -1,4 +1,5 @@
 -- The run with two asks, computed.
+use native.Mathlib.Omega.{arith}
 use mathlib.Core.Bool.{true, false, false≢true}
 use mathlib.Core.List.{[], _∷_}
 use mathlib.Core.Logic.{inl}
@@ -7,20 +8,21 @@ use lib.Dec.{eqb}
 use Rattle.judge.specs.Difference.{diff}
 use Rattle.queue.specs.Ring.{slotBytes, slotData}
 use Rattle.wire.specs.Message.{parse, encode, headerBytes}
-use Rattle.rules.specs.Rules.{decideOf, onEvent}
-use Rattle.link.specs.Perform.{performed}
-use Rattle.link.specs.Step.{effectOf, stepped}
+use Rattle.rules.specs.Decide.{decideOf, onEvent}
+use Rattle.rules.specs.Perform.{performed}
+use Rattle.rules.specs.Step.{effectOf, stepped}
 use Rattle.pair.specs.Run.{after}
 use Rattle.pair.specs.Channel.{MayHandOver}
 use Rattle.pair.specs.Run.{Lawful}
 use Rattle.witness.specs.PairTable.{of, connect, reached}
 use Rattle.witness.specs.PairAsks.{start, l0, asking, apart, AskingHappens, OlderAskAnswered, NewerAskAnswered}
 use Rattle.witness.proofs.PairSame.{same-letters, same-data}
+use Rattle.witness.proofs.PairLawful.{only-none}
 use Rattle.witness.proofs.PairShown.{happens}
 
 pub asking-happens : AskingHappens
 unfolding after stepped effectOf performed decideOf onEvent parse encode headerBytes slotBytes slotData diff
-asking-happens = happens start asking ((refl, refl), (refl, refl)) refl refl
+asking-happens = happens start asking (record { left = record { sound = (refl, refl); inRole = refl }; right = record { sound = (refl, refl); inRole = refl } }) refl refl
 
 not-over : MayHandOver (apart .time) (apart .right) (apart .left) l0 → ⊥
 unfolding after stepped effectOf performed decideOf onEvent parse encode headerBytes slotBytes slotData diff
@@ -28,7 +30,7 @@ not-over may = false≢true (ap (λ n. eqb n 1) (may .sameConnection))
 
 not-twice : Lawful apart (apart .right) (apart .left) (connect 1) → ⊥
 unfolding after stepped effectOf performed decideOf onEvent parse encode headerBytes slotBytes slotData diff
-not-twice law = law .answersAsk refl .notYet (inl refl)
+not-twice law = let none = only-none 2 (1 ∷ []) 1 (λ _ _. inl refl) (law .answersAsk refl) in omega arith
 
 pub older-ask-answered : OlderAskAnswered
 unfolding after stepped effectOf performed decideOf onEvent parse encode headerBytes slotBytes slotData diff

@@ -5,9 +5,9 @@ use mathlib.Core.Path.{_≡_, refl, sym, subst}
 use Rattle.judge.specs.Difference.{diff}
 use Rattle.queue.specs.Ring.{slotBytes, slotData}
 use Rattle.wire.specs.Message.{parse, encode, headerBytes}
-use Rattle.rules.specs.Rules.{decideOf, onEvent}
-use Rattle.link.specs.Perform.{performed}
-use Rattle.link.specs.Step.{effectOf, stepped}
+use Rattle.rules.specs.Decide.{decideOf, onEvent}
+use Rattle.rules.specs.Perform.{performed}
+use Rattle.rules.specs.Step.{effectOf, stepped}
 use Rattle.pair.specs.Run.{after}
 use Rattle.pair.specs.Among.{Among}
 use Rattle.pair.specs.World.{Delivery}
@@ -21,7 +21,7 @@ use Rattle.witness.proofs.PairAged.{aged-at-left, aged-at-right, late-a
 
 pub sharp-run-happens : SharpRunHappens
 unfolding after stepped effectOf performed decideOf onEvent parse encode headerBytes slotBytes slotData diff
-sharp-run-happens = happens sharply sharpRun ((refl, refl), (refl, refl)) refl refl
+sharp-run-happens = happens sharply sharpRun (record { left = record { sound = (refl, refl); inRole = refl }; right = record { sound = (refl, refl); inRole = refl } }) refl refl
 
 pub shortfalls-are-extreme : ShortfallsAreExtreme
 unfolding after stepped effectOf performed decideOf onEvent parse encode headerBytes slotBytes slotData diff

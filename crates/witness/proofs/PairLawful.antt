@@ -1,5 +1,5 @@
 -- That each move of a run may be made, by one test of the whole run.
-use Prim.Native.Nat.{ℕ, _+_, _^_}
+use Prim.Native.Nat.{ℕ, _+_, _^_, _≤_}
 use mathlib.Core.Bool.{Bool, true, false, not, cond, _&&_, false≢true}
 use mathlib.Core.List.{List, [], _∷_}
 use mathlib.Core.Logic.{_⊎_, inl, inr, ⊎-elim}
@@ -9,7 +9,8 @@ use borrow.Author.Tests.{leb-true, ltb-true, eqb-true, eqb-false}
 use Rattle.pair.specs.Among.{Among}
 use Rattle.pair.specs.World.{Letter, Side, World}
 use Rattle.pair.specs.Channel.{MayHandOver}
-use Rattle.pair.specs.Event.{Call, resultAt, isMessage, accepts}
+use Rattle.run.specs.Events.{isMessage, accepts}
+use Rattle.pair.specs.Happening.{Happening, resultAt}
 use Rattle.pair.specs.Run.{Beginning, Move, Unanswered, Lawful, May, Run, begun, next, after}
 use Rattle.pair.specs.Run.Move.{wait, atLeft, atRight}
 use Rattle.witness.specs.PairTable.{Row, movesAfter, movesIn}
@@ -68,14 +69,29 @@ none-of : (x : ℕ) (ys : List ℕ) → not (isOneOf x ys) ≡ true → Among x 
 none-of x (y ∷ ys) e (inl is) = eqb-false x y (cond-nor (eqb x y) (isOneOf x ys) e .0) is
 none-of x (y ∷ ys) e (inr i) = none-of x ys (cond-nor (eqb x y) (isOneOf x ys) e .1) i
 
-abbrev pub isUnanswered : World → ℕ → Bool
-isUnanswered w ask = leb 1 ask && (leb ask (w .asks) && not (isOneOf ask (w .answered)))
+abbrev pub isUnanswered : ℕ → List ℕ → ℕ → Bool
+isUnanswered asked answered ask = leb 1 ask && (leb ask asked && not (isOneOf ask answered))
 
-is-unanswered : (w : World) (ask : ℕ) → isUnanswered w ask ≡ true → Unanswered w ask
-is-unanswered w ask e =
+is-unanswered : (asked : ℕ) (answered : List ℕ) (ask : ℕ) → isUnanswered asked answered ask ≡ true → Unanswered asked answered ask
+is-unanswered asked answered ask e =
     let p = both (leb 1 ask) _ e in
-    let q = both (leb ask (w .asks)) _ (p .1) in
-    record { some = leb-true 1 ask (p .0); made = leb-true ask (w .asks) (q .0); notYet = none-of ask (w .answered) (q .1) }
+    let q = both (leb ask asked) _ (p .1) in
+    record { some = leb-true 1 ask (p .0); made = leb-true ask asked (q .0); notYet = none-of ask answered (q .1) }
+
+-- such an ask, or none
+abbrev pub mayAnswer : World → ℕ → Bool
+mayAnswer w ask = cond (eqb ask 0) true (isUnanswered (w .asks) (w .answered) ask)
+
+may-answer : (w : World) (ask : ℕ) → mayAnswer w ask ≡ true → (ask ≡ 0) ⊎ Unanswered (w .asks) (w .answered) ask
+may-answer w ask e =
+    ⊎-elim (λ is. inl (eqb-true ask 0 is)) (λ is. inr (is-unanswered (w .asks) (w .answered) ask is))
+    (cond-or (eqb ask 0) (isUnanswered (w .asks) (w .answered) ask) e)
+
+-- where all are answered, an accept answers none
+pub only-none : (asked : ℕ) (answered : List ℕ) (ask : ℕ) → (1 ≤ ask → ask ≤ asked → Among ask answered)
+    → (ask ≡ 0) ⊎ Unanswered asked answered ask → ask ≡ 0
+only-none asked answered ask all (inl none) = none
+only-none asked answered ask all (inr u) = absurd (u .notYet (all (u .some) (u .made)))
 
 -- ---- moves
 
@@ -87,17 +103,17 @@ so-then : (a b : Bool) → then a b ≡ true → a ≡ true → b ≡ true
 so-then true b e is = e
 so-then false b e is = absurd (false≢true is)
 
-abbrev pub isLawful : World → Side → Side → Call → Bool
+abbrev pub isLawful : World → Side → Side → Happening → Bool
 isLawful w own other c =
     then (isMessage (c .event)) (mayHandOver (w .time) own other (c .letter))
-    && then (accepts (resultAt (w .time) own c)) (isUnanswered w (c .ask))
+    && then (accepts (resultAt (w .time) own c)) (mayAnswer w (c .ask))
 
-pub is-lawful : (w : World) (own other : Side) (c : Call) → isLawful w own other c ≡ true → Lawful w own other c
+pub is-lawful : (w : World) (own other : Side) (c : Happening) → isLawful w own other c ≡ true → Lawful w own other c
 is-lawful w own other c e =
     let p = both (then (isMessage (c .event)) (mayHandOver (w .time) own other (c .letter))) _ e in
     record {
       handsOver = λ is. may-hand-over (w .time) own other (c .letter) (so-then (isMessage (c .event)) _ (p .0) (ap isMessage is));
-      answersAsk = λ is. is-unanswered w (c .ask) (so-then (accepts (resultAt (w .time) own c)) _ (p .1) is);
+      answersAsk = λ is. may-answer w (c .ask) (so-then (accepts (resultAt (w .time) own c)) _ (p .1) is);
     }
 
 abbrev pub mayMove : World → Move → Bool

@@ -5,13 +5,15 @@ use mathlib.Core.List.{List, [], _∷_}
 use mathlib.Core.Path.{_≡_, refl, sym, _∙_}
 use lib.Dec.{eqb}
 use borrow.Author.Tests.{eqb-true}
-use Rattle.link.specs.Step.{Result}
+use Rattle.rules.specs.Step.{Result}
 use Rattle.pair.specs.World.{World}
-use Rattle.pair.specs.Event.{resultAt, answerIn}
-use Rattle.pair.specs.Run.{Beginning, Sound, begun, next}
+use Rattle.rules.specs.Claims.{answerOf}
+use Rattle.pair.specs.Happening.{resultAt}
+use Rattle.pair.specs.Run.{Beginning, SoundBeginning, begun, next}
 use Rattle.pair.specs.Run.Move.{wait, atLeft, atRight}
-use Rattle.witness.specs.Table.{Output, outputsOf}
-use Rattle.witness.specs.Table.Output.{ask, accept, send, give, up, error, release, down}
+use Rattle.rules.specs.Outputs.{Output}
+use Rattle.witness.specs.Table.{outputsIn}
+use Rattle.rules.specs.Outputs.Output.{ask, accept, send, datum as give, up, error, release, down}
 use Rattle.witness.specs.PairTable.{Row, ruled, Happens}
 use Rattle.witness.specs.PairTable.Row.{left, right}
 use Rattle.witness.proofs.PairSame.{both, sameBytes, same-bytes}
@@ -79,12 +81,12 @@ same-outputs (x ∷ xs) (y ∷ ys) e =
 
 -- a result has this answer and these outputs
 abbrev pub isShown : Result → ℕ → List Output → Bool
-isShown r answer outputs = eqb (answerIn r) answer && sameOutputs (outputsOf r) outputs
+isShown r answer outputs = eqb (answerOf r) answer && sameOutputs (outputsIn r) outputs
 
-is-shown : (r : Result) (answer : ℕ) (outputs : List Output) → isShown r answer outputs ≡ true → (answerIn r ≡ answer) × (outputsOf r ≡ outputs)
+is-shown : (r : Result) (answer : ℕ) (outputs : List Output) → isShown r answer outputs ≡ true → (answerOf r ≡ answer) × (outputsIn r ≡ outputs)
 is-shown r answer outputs e =
-    let p = both (eqb (answerIn r) answer) _ e in
-    (eqb-true (answerIn r) answer (p .0), same-outputs (outputsOf r) outputs (p .1))
+    let p = both (eqb (answerOf r) answer) _ e in
+    (eqb-true (answerOf r) answer (p .0), same-outputs (outputsIn r) outputs (p .1))
 
 abbrev pub shows : World → List Row → Bool
 shows w [] = true
@@ -114,5 +116,5 @@ rows-of w (right n c answer outputs ∷ xs) e =
 
 -- ---- both tests
 
-pub happens : (b : Beginning) (xs : List Row) → Sound b → runs (begun b) xs ≡ true → shows (begun b) xs ≡ true → Happens b xs
+pub happens : (b : Beginning) (xs : List Row) → SoundBeginning b → runs (begun b) xs ≡ true → shows (begun b) xs ≡ true → Happens b xs
 happens b xs sound may is = record { sound = sound; run = run-of b xs may; rows = rows-of (begun b) xs is }

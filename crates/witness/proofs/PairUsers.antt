@@ -4,9 +4,9 @@ use mathlib.Core.Path.{refl}
 use Rattle.judge.specs.Difference.{diff}
 use Rattle.queue.specs.Ring.{slotBytes, slotData}
 use Rattle.wire.specs.Message.{parse, encode, headerBytes}
-use Rattle.rules.specs.Rules.{decideOf, onEvent}
-use Rattle.link.specs.Perform.{performed}
-use Rattle.link.specs.Step.{effectOf, stepped}
+use Rattle.rules.specs.Decide.{decideOf, onEvent}
+use Rattle.rules.specs.Perform.{performed}
+use Rattle.rules.specs.Step.{effectOf, stepped}
 use Rattle.pair.specs.Run.{after}
 use Rattle.pair.specs.Run.Move.{wait}
 use Rattle.pair.proofs.Claims.{data-are-the-users, users-get-what-users-gave}

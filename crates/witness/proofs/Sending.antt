@@ -3,12 +3,12 @@ use mathlib.Core.Path.{refl}
 use Rattle.judge.specs.Difference.{diff}
 use Rattle.queue.specs.Ring.{slotBytes, slotData}
 use Rattle.wire.specs.Message.{parse, encode, headerBytes}
-use Rattle.rules.proofs.Decided.{apart}
-use Rattle.rules.specs.Rules.{decideOf, onEvent}
+use Rattle.rules.proofs.Lives.{apart}
+use Rattle.rules.specs.Decide.{decideOf, onEvent}
 use Rattle.rules.specs.declared.state.Life.the-variants.{Idle, Up}
-use Rattle.link.specs.Perform.{performed}
-use Rattle.link.specs.Step.{effectOf, stepped}
-use Rattle.history.specs.Run.{after, history}
+use Rattle.rules.specs.Perform.{performed}
+use Rattle.rules.specs.Step.{effectOf, stepped}
+use Rattle.run.specs.Run.{after, history}
 use Rattle.history.specs.Sending.{inConnection}
 use Rattle.history.proofs.Sending.{sending, nothing-lost, waits-while-up}
 use Rattle.witness.specs.Ends.{initiator}

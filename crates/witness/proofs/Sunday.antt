@@ -1,11 +1,11 @@
--- The paper's example, computed.
+-- The example of the Sunday script, computed.
 use mathlib.Core.Path.{refl}
 use Rattle.judge.specs.Difference.{diff}
 use Rattle.wire.specs.Message.{parse, encode, headerBytes}
-use Rattle.rules.specs.Rules.{decideOf, onEvent}
-use Rattle.link.specs.Perform.{performed}
-use Rattle.link.specs.Step.{effectOf, stepped}
-use Rattle.history.specs.Run.{after, history}
+use Rattle.rules.specs.Decide.{decideOf, onEvent}
+use Rattle.rules.specs.Perform.{performed}
+use Rattle.rules.specs.Step.{effectOf, stepped}
+use Rattle.run.specs.Run.{after, history}
 use Rattle.witness.specs.Sunday.{SundayHappens}
 
 pub sunday-happens : SundayHappens

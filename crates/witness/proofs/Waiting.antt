@@ -1,16 +1,15 @@
 -- Limits and asking: the ends computed, and what follows by the claims.
 use mathlib.Core.List.{[]}
-use mathlib.Core.Logic.{inl, inr}
 use mathlib.Core.Path.{refl}
 use lib.Dec.{lit<, lit≤}
 use borrow.Author.Tests.{eqb-false}
 use Rattle.judge.specs.Difference.{diff}
 use Rattle.wire.specs.Message.{parse, encode, headerBytes}
-use Rattle.rules.specs.Rules.{decideOf, onEvent}
+use Rattle.rules.specs.Decide.{decideOf, onEvent}
 use Rattle.rules.specs.declared.act.Event.the-variants.{Tick, Message}
-use Rattle.link.specs.Perform.{performed}
-use Rattle.link.specs.Step.{effectOf, stepped}
-use Rattle.history.specs.Run.{after}
+use Rattle.rules.specs.Perform.{performed}
+use Rattle.rules.specs.Step.{effectOf, stepped}
+use Rattle.run.specs.Run.{after}
 use Rattle.history.specs.Delivery.{IsTaken}
 use Rattle.history.proofs.Silence.{silent-ends-fall}
 use Rattle.history.proofs.Waiting.{overdue-start-ends, idle-tick-asks}
@@ -70,8 +69,8 @@ asks-at-once = (
   refl,
   refl,
   fresh-takes,
-  inl refl,
-  idle-tick-asks (after initiator [] .end) (reading 100) [] roomy (initiator .queue) refl refl fresh-takes (inl refl),
+  refl,
+  idle-tick-asks (after initiator [] .end) (reading 100) [] roomy (initiator .queue) refl refl fresh-takes refl,
 )
 
 refused-takes : IsTaken refused (reading 1_100) roomy
@@ -86,7 +85,7 @@ asks-again = (
     refl,
     refl,
     refused-takes,
-    inr (lit≤ tt),
-    idle-tick-asks refused (reading 1_100) [] roomy (initiator .queue) refl refl refused-takes (inr (lit≤ tt)),
+    refl,
+    idle-tick-asks refused (reading 1_100) [] roomy (initiator .queue) refl refl refused-takes refl,
   ),
 )

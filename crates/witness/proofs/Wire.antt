@@ -13,7 +13,7 @@ use Rattle.wire.specs.Writing.{carries}
 use Rattle.wire.specs.Claims.{Fits, BodyFits}
 use Rattle.wire.specs.declared.message.Body.{Body}
 use Rattle.wire.specs.declared.message.Body.the-variants.{OffsetStart, OffsetAnsw1, OffsetAnsw2, OffsetEst, OffsetEnd, LifeSign, TrainData}
-use Rattle.witness.specs.Wire.{pair, nines, thousand, eighteen, messageOf, BodyReadsBack, ThousandReadsBack, ThousandWritesBack, EachReadsBack, EighteenWriteBack}
+use Rattle.witness.specs.Wire.{offset, pair, nines, thousand, eighteen, messageOf, BodyReadsBack, ThousandReadsBack, ThousandWritesBack, EachReadsBack, EighteenWriteBack}
 
 -- ---- bytes, by a test
 
@@ -58,7 +58,7 @@ each-reads-back = (
   back OffsetStart tt refl,
   back OffsetAnsw1 tt refl,
   back OffsetAnsw2 tt refl,
-  back (OffsetEst 4_294_967_237 4_294_967_247) (lit< tt, lit< tt) refl,
+  back (OffsetEst (offset 4_294_967_237) (offset 4_294_967_247)) (lit< tt, lit< tt) refl,
   back OffsetEnd tt refl,
   back LifeSign tt refl,
   back TrainData tt refl,

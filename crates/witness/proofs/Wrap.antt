@@ -3,7 +3,7 @@ use mathlib.Core.Path.{refl}
 use lib.Dec.{lit<}
 use Rattle.judge.specs.Difference.{diff}
 use Rattle.judge.proofs.Difference.{diff-is}
-use Rattle.history.proofs.Wrap.{class-by-difference}
+use Rattle.judge.proofs.Wrap.{class-by-difference}
 use Rattle.witness.specs.Wrap.{SameAcross, NumbersWrap, ReadingsWrap}
 
 pub same-across : SameAcross

@@ -2,15 +2,12 @@
 use Prim.Native.Nat.{ℕ, _≤_}
 use mathlib.Core.List.{List}
 use mathlib.Core.Path.{_≡_}
-use Rattle.rules.specs.Answers.{numberOf}
 use Rattle.rules.specs.declared.settings.Settings.{Settings}
-use Rattle.rules.specs.declared.answer.Answer.{Answer}
 use Rattle.rules.specs.declared.state.Role.{Role}
 use Rattle.judge.specs.declared.clock.Reading.{Reading}
-use Rattle.link.specs.Claims.{answerOf}
-use Rattle.link.specs.Make.{madeOf}
-use Rattle.link.specs.declared.make.Made.the-variants.{Refused}
-use Rattle.history.specs.Run.{Making, Sound, Call, entryOf}
+use Rattle.rules.specs.Claims.{answerOf}
+use Rattle.rules.specs.Make.{madeOf, madeNumber}
+use Rattle.run.specs.Run.{Making, Sound, Call, entryOf}
 
 -- in some run, some event is answered so
 pub record IsGiven (n : ℕ) : Type 0 where
@@ -29,4 +26,4 @@ abbrev pub unsettled : Settings
 unsettled = record { age = 50; spread = 20; silence = 300; «life_sign» = 300; wait = 500; retry = 1_000; jump = 4; errors = 2 }
 
 abbrev pub OneIsGiven : Type 0
-OneIsGiven = (role : Role) (at : Reading) → (a : Answer) × (madeOf role at unsettled ≡ Refused a) × (numberOf a ≡ 1)
+OneIsGiven = (role : Role) (at : Reading) → madeNumber (madeOf role at unsettled) ≡ 1

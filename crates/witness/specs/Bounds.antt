@@ -10,10 +10,10 @@ use Rattle.rules.specs.declared.act.Event.the-variants.{Tick, Connect, Confirm,
 use Rattle.rules.specs.declared.state.Role.the-variants.{Initiator}
 use Rattle.rules.specs.declared.state.Life.the-variants.{Idle, Up}
 use Rattle.rules.specs.declared.state.Phase.the-variants.{Starting as starting}
-use Rattle.link.specs.Claims.{answerOf}
-use Rattle.history.specs.Run.{Sound, Entry, after, history}
+use Rattle.rules.specs.Claims.{answerOf}
+use Rattle.run.specs.Run.{Sound, Entry, after, history}
 use Rattle.history.specs.Timed.{Moment, callsOf, latest, RunsTrue, timeOf, AtLeastEvery, ticks, looks}
-use Rattle.history.specs.Waiting.{waits, asks, rests}
+use Rattle.history.specs.Waiting.{waits, asksIn, rests}
 use Rattle.history.specs.Silence.{hears}
 use Rattle.witness.specs.Ends.{settings, initiator, call, bare, estimate, lifeSign}
 
@@ -99,8 +99,8 @@ longestRest = moment 2_099 Connect [] ∷ moment 1_099 Tick [] ∷ moment 104 Di
 abbrev pub Rests : ℕ → List Moment → Type 0
 Rests g xs =
     ((timeOf ticks initiator 100 xs ≤ timeOf rests initiator 100 xs) × (latest 100 xs ≤ timeOf rests initiator 100 xs + g))
-    ⊎ ((timeOf ticks initiator 100 xs < timeOf asks initiator 100 xs + settings .retry)
-    × (latest 100 xs < timeOf asks initiator 100 xs + settings .retry + g))
+    ⊎ ((timeOf ticks initiator 100 xs < timeOf asksIn initiator 100 xs + settings .retry)
+    × (latest 100 xs < timeOf asksIn initiator 100 xs + settings .retry + g))
 
 -- all that is asked of such a run
 abbrev pub RestsInTime : ℕ → List Moment → Type 0
@@ -113,7 +113,7 @@ RestsInTime g xs =
 abbrev pub RetryBoundIsReached : Type 0
 RetryBoundIsReached =
     RestsInTime 1_000 longestRest × (timeOf rests initiator 100 longestRest < timeOf ticks initiator 100 longestRest)
-    × (latest 100 longestRest + 1 ≡ timeOf asks initiator 100 longestRest + settings .retry + 1_000)
+    × (latest 100 longestRest + 1 ≡ timeOf asksIn initiator 100 longestRest + settings .retry + 1_000)
     × Rests 1_000 longestRest
 
 -- it is Up until 1,300, and then a tick comes, the peer is gone, and for 1,000 ticks there is no other tick
@@ -127,7 +127,7 @@ unticked =
 abbrev pub RestBoundIsReached : Type 0
 RestBoundIsReached =
     RestsInTime 1_000 unticked × (latest 100 unticked ≡ timeOf rests initiator 100 unticked + 1_000)
-    × (timeOf asks initiator 100 unticked + settings .retry + 1_000 < latest 100 unticked)
+    × (timeOf asksIn initiator 100 unticked + settings .retry + 1_000 < latest 100 unticked)
     × Rests 1_000 unticked
 
 -- the ticks that are one tick too far apart for an initiator: 2 ^ 31 + 1 - T
@@ -146,4 +146,4 @@ FarTicksAreTooFar =
     Sound initiator × RunsTrue initiator 100 wrappedRest × AtLeastEvery farApart ticks initiator 100 wrappedRest
     × (farApart + settings .wait ≡ 2 ^ 31 + 1) × (after initiator (callsOf wrappedRest) .end .life ≡ Idle)
     × (timeOf rests initiator 100 wrappedRest < timeOf ticks initiator 100 wrappedRest)
-    × (timeOf asks initiator 100 wrappedRest + 2 ^ 32 ≡ timeOf ticks initiator 100 wrappedRest)
+    × (timeOf asksIn initiator 100 wrappedRest + 2 ^ 32 ≡ timeOf ticks initiator 100 wrappedRest)

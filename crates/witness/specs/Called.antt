@@ -3,7 +3,7 @@ use Prim.Native.Nat.{_^_, _-_}
 use mathlib.Core.List.{List, [], _∷_, _++_}
 use Rattle.witness.specs.Ends.{called, tick, connect, disconnect, user, comes, bare, estimate, lifeSign, train}
 use Rattle.witness.specs.Table.{Row, row, Happens}
-use Rattle.witness.specs.Table.Output.{accept, send, give, up, release, down}
+use Rattle.rules.specs.Outputs.Output.{accept, send, datum as give, up, release, down}
 
 -- it accepts, answers kinds 1 and 3, and is Up with kind 5; its minimum is 0 less 59
 abbrev pub answering : List Row

@@ -4,24 +4,23 @@ use mathlib.Core.Bool.{Bool, true, false}
 use mathlib.Core.List.{List, [], _∷_}
 use mathlib.Core.Path.{_≡_}
 use lib.ListN.{length}
-use Rattle.judge.specs.Clock.{ageOf}
-use Rattle.judge.specs.Sequence.{aheadOf}
 use Rattle.queue.specs.Ring.{emptyRing}
-use Rattle.wire.specs.Message.{dataIn}
+use Rattle.wire.specs.Message.{trainIn}
 use Rattle.wire.specs.Writing.{over}
 use Rattle.wire.specs.declared.message.Header.{Header}
-use Rattle.rules.specs.Rules.{readingIn}
+use Rattle.rules.specs.Hearing.{aheadFor, ageFor}
 use Rattle.rules.specs.State.{zeroReading}
 use Rattle.rules.specs.declared.act.Event.the-variants.{Message}
 use Rattle.rules.specs.declared.state.Role.the-variants.{Initiator}
 use Rattle.rules.specs.declared.state.Life.the-variants.{Up}
 use Rattle.rules.specs.declared.state.End.{End}
-use Rattle.link.specs.Claims.{answerOf}
-use Rattle.link.specs.Perform.{noFlags}
-use Rattle.link.specs.Step.{Result, stepped}
-use Rattle.link.specs.declared.effect.Front.the-variants.{Datum as datum}
-use Rattle.history.specs.Run.{Sound, Call}
-use Rattle.history.specs.Delivery.{HandedOver, Says, IsJudged, delivers, InTurnAndFresh}
+use Rattle.rules.specs.Claims.{answerOf}
+use Rattle.rules.specs.Ends.{noFlags}
+use Rattle.rules.specs.Step.{Result, stepped}
+use Rattle.rules.specs.declared.effect.Front.the-variants.{Datum as datum}
+use Rattle.run.specs.Run.{Sound, Call}
+use Rattle.run.specs.Events.{delivers}
+use Rattle.history.specs.Delivery.{HandedOver, Says, IsJudged, InTurnAndFresh}
 use Rattle.witness.specs.Ends.{settings, reading, initiator, roomy, stamped, lifeSign, train}
 use Rattle.witness.specs.Table.{Row, left, next}
 use Rattle.witness.specs.Initiator.{rising, inTurn, untilHeard, gapped}
@@ -37,13 +36,21 @@ abbrev pub beforeTheWrap : End
 beforeTheWrap =
     record {
       settings = settings;
-      line = record { minimum = record { 0 = 994 }; maximum = record { 0 = 1_003 }; posted = zeroReading; echo = zeroReading; receipt = zeroReading; began = zeroReading; heard = reading 800; spoken = reading 900; next = 65_535; last = 65_535; failures = 1; spoke = true };
+      line =
+          record {
+            offsets = record { minimum = record { 0 = 994 }; maximum = record { 0 = 1_003 }; since = zeroReading };
+            began = zeroReading;
+            times = record { said = reading 900; heard = reading 800 };
+            echo = record { peer = zeroReading; own = zeroReading };
+            numbers = record { next = 65_535; last = 65_535 };
+            failures = 1;
+            busy = true;
+          };
       reading = reading 999;
-      asked = zeroReading;
+      asking = record { when = zeroReading; «at_once» = false };
       ring = emptyRing;
       role = Initiator;
       life = Up;
-      «at_once» = false;
     }
 
 -- what it comes to when a message comes at a reading
@@ -51,12 +58,12 @@ abbrev pub comingTo : End → ℕ → List ℕ → Result
 comingTo e n given = stepped e Message (reading n) given roomy (initiator .queue)
 
 abbrev pub ageAt : End → ℕ → Header → ℕ
-ageAt e n h = ageOf (reading n) (readingIn (h .sent)) (e .line .minimum)
+ageAt e n h = ageFor e (reading n) h
 
 -- the message of this header is judged, is the expected one and of this age, which is fresh; so it is delivered
 abbrev pub IsExpected : End → ℕ → List ℕ → Header → Bool → ℕ → Type 0
 IsExpected e n given h isTrain age =
-    IsJudged e (reading n) roomy × Says given h isTrain × (aheadOf (h .number) (e .line .last) ≡ 1) × (ageAt e n h ≡ age)
+    IsJudged e (reading n) roomy × Says given h isTrain × (aheadFor e h ≡ 1) × (ageAt e n h ≡ age)
     × (ageAt e n h ≤ e .settings .age)
     × (let r = comingTo e n given in
     (answerOf r ≡ 0) × HandedOver isTrain given roomy r × (r .outcome .flags ≡ noFlags) × (r .outcome .end .life ≡ Up))
@@ -79,8 +86,8 @@ DeliveredAtTheWrap =
 -- the same of a message that is d ahead
 abbrev pub IsGapped : End → ℕ → List ℕ → Header → Bool → ℕ → Type 0
 IsGapped e n given h isTrain d =
-    IsJudged e (reading n) roomy × Says given h isTrain × (aheadOf (h .number) (e .line .last) ≡ d)
-    × (2 ≤ aheadOf (h .number) (e .line .last)) × (aheadOf (h .number) (e .line .last) ≤ e .settings .jump)
+    IsJudged e (reading n) roomy × Says given h isTrain × (aheadFor e h ≡ d)
+    × (2 ≤ aheadFor e h) × (aheadFor e h ≤ e .settings .jump)
     × (e .settings .jump ≤ 1_000) × (ageAt e n h ≤ e .settings .age)
     × (let r = comingTo e n given in
     (answerOf r ≡ 13) × HandedOver isTrain given roomy r × (r .outcome .flags .error ≡ true) × (r .outcome .end .life ≡ Up))
@@ -99,8 +106,8 @@ abbrev pub IsDelivered : List Row → Call → ℕ → Type 0
 IsDelivered xs c n =
     let x = next initiator xs c in
     Sound initiator × (x .result .outcome .front ≡ datum n) × (delivers x ≡ true) × InTurnAndFresh x 4 50
-    × (n ≡ length (dataIn (c .given)))
-    × (x .result .out ≡ over (dataIn (c .given)) (c .out))
+    × (n ≡ length (trainIn (c .given)))
+    × (x .result .out ≡ over (trainIn (c .given)) (c .out))
 
 abbrev pub DeliveredInTurn : Type 0
 DeliveredInTurn = IsDelivered rising inTurn 3

@@ -7,17 +7,17 @@ use Rattle.queue.specs.Ring.{size}
 use Rattle.wire.specs.Bytes.{bytesOf}
 use Rattle.wire.specs.Message.{headerBytes}
 use Rattle.wire.specs.declared.message.Header.{Header}
-use Rattle.rules.specs.Rules.{leastRoom}
+use Rattle.rules.specs.Decide.{leastRoom}
 use Rattle.rules.specs.declared.act.Event.{Event}
 use Rattle.rules.specs.declared.act.Event.the-variants.{Tick, Connect, Confirm, Disconnect, Data, Message}
 use Rattle.rules.specs.declared.settings.Settings.{Settings}
 use Rattle.rules.specs.declared.state.Role.{Role}
 use Rattle.rules.specs.declared.state.Role.the-variants.{Initiator, Called}
-use Rattle.history.specs.Run.{Making, Call}
+use Rattle.run.specs.Run.{Making, Call}
 
 -- ---- ends
 
--- the settings of the paper's example
+-- the settings of the script's example
 abbrev pub settings : Settings
 settings = record { age = 50; spread = 20; silence = 300; «life_sign» = 100; wait = 500; retry = 1_000; jump = 4; errors = 2 }
 
@@ -68,7 +68,8 @@ crampedTick n = record { event = Tick; at = reading n; given = []; out = replica
 -- ---- messages: the kind where it is not fixed, the number, the sender's reading, the echo and its receipt
 
 abbrev pub stamped : ℕ → ℕ → ℕ → ℕ → Header
-stamped number sent echo receipt = record { sent = sent; echo = echo; receipt = receipt; number = number }
+stamped number sent echo receipt =
+    record { stamps = record { sent = reading sent; echo = reading echo; receipt = reading receipt }; number = number }
 
 -- kinds 1, 2, 3 and 5
 abbrev pub bare : ℕ → ℕ → ℕ → ℕ → ℕ → List ℕ

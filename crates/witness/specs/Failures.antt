@@ -1,7 +1,7 @@
 -- An end bears one failure where its limit is two: what `FailuresBelowLimit` asks, and more cannot be said.
 use Prim.Native.Nat.{_<_}
 use mathlib.Core.Path.{_≡_}
-use Rattle.history.specs.Run.{Sound}
+use Rattle.run.specs.Run.{Sound}
 use Rattle.history.specs.Seen.{seen}
 use Rattle.history.specs.Failures.{failureCount}
 use Rattle.witness.specs.Ends.{initiator}

@@ -1,10 +1,10 @@
 -- A long run of an initiator, in which every answer of an event is given.
 use Prim.Native.Nat.{_^_, _-_}
 use mathlib.Core.List.{List, [], _∷_, _++_}
-use Rattle.history.specs.Run.{Call}
+use Rattle.run.specs.Run.{Call}
 use Rattle.witness.specs.Ends.{initiator, tick, crampedTick, confirm, user, comes, bare, estimate, lifeSign, train}
 use Rattle.witness.specs.Table.{Row, row, Happens}
-use Rattle.witness.specs.Table.Output.{ask, send, give, up, error, release, down}
+use Rattle.rules.specs.Outputs.Output.{ask, send, datum as give, up, error, release, down}
 
 -- it asks, is confirmed, measures a minimum of 53 and a maximum of 59, and comes Up at 115
 abbrev pub rising : List Row

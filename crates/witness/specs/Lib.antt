@@ -17,7 +17,7 @@ pub mod Bounds
 pub mod Wrap
 pub mod Wire
 pub mod Queue
-pub mod Link
+pub mod OneEvent
 pub mod PairTable
 pub mod PairJourney
 pub mod PairOrder
@@ -26,5 +26,6 @@ pub mod PairAges
 pub mod PairEdges
 pub mod PairSpread
 pub mod PairAsks
+pub mod PairUnasked
 pub mod Pieces
 pub mod PairTwice

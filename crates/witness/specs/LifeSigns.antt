@@ -3,9 +3,9 @@ use mathlib.Core.Bool.{true, false}
 use mathlib.Core.List.{List, [], _∷_}
 use mathlib.Core.Path.{_≡_}
 use Rattle.rules.specs.declared.state.Life.the-variants.{Up}
-use Rattle.history.specs.Run.{Call, after}
+use Rattle.run.specs.Run.{Call, after}
 use Rattle.history.specs.Seen.{seen, seenOf}
-use Rattle.history.specs.LifeSigns.{speaks, spokenSince}
+use Rattle.history.specs.LifeSigns.{speaks, kind6Since}
 use Rattle.witness.specs.Ends.{called, tick, user}
 use Rattle.witness.specs.Table.{Row, callsIn, ran, left, next}
 use Rattle.witness.specs.Called.{answering, untilHeld}
@@ -21,9 +21,9 @@ AllSpeak = Speaks answering (tick 166) × Speaks answering (user 67 (5 ∷ [])) 
 
 -- none has left since coming Up, and the end does not hold that one has
 abbrev pub NoneHasLeft : Type 0
-NoneHasLeft = (spokenSince (seen (ran called answering)) ≡ 0) × (left called answering .end .line .spoke ≡ false)
+NoneHasLeft = (kind6Since (seen (ran called answering)) ≡ 0) × (left called answering .end .line .busy ≡ false)
 
 -- one has left since the last tick, and another before it
 abbrev pub OneHasLeft : Type 0
 OneHasLeft =
-    (spokenSince (seen (ran called untilHeld)) ≡ 1) × (left called untilHeld .end .line .spoke ≡ true)
+    (kind6Since (seen (ran called untilHeld)) ≡ 1) × (left called untilHeld .end .line .busy ≡ true)

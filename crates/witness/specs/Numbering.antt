@@ -4,8 +4,9 @@ use mathlib.Core.List.{List, [], _∷_, _++_}
 use mathlib.Core.Path.{_≡_}
 use Rattle.wire.specs.Bytes.{numberAt}
 use Rattle.rules.specs.declared.act.Event.the-variants.{Tick}
-use Rattle.link.specs.Step.{stepped}
-use Rattle.history.specs.Run.{Call, entryOf, history}
+use Rattle.rules.specs.Step.{stepped}
+use Rattle.run.specs.Run.{Call, entryOf, history}
+use Rattle.history.specs.Echoes.{echoSince}
 use Rattle.history.specs.Numbering.{leaving, sentInConnection}
 use Rattle.witness.specs.Ends.{initiator, reading, roomy, tick, confirm}
 use Rattle.witness.specs.Table.{callsIn}
@@ -31,4 +32,21 @@ FirstAgain = Numbers (tick 200 ∷ callsIn (untilDown ++ resting)) (confirm 201)
 abbrev pub NumbersEnd : Type 0
 NumbersEnd =
     let r = stepped beforeTheWrap Tick (reading 1_000) [] roomy (initiator .queue) in
-    (numberAt 2 (r .out) 1 ≡ 65_535) × (r .outcome .end .line .next ≡ 0)
+    (numberAt 2 (r .out) 1 ≡ 65_535) × (r .outcome .end .line .numbers .next ≡ 0)
+
+-- ---- echoes: `EchoesLastAccepted`
+
+-- what leaves with an event echoes these two readings, as the history has them
+abbrev pub Echoes : List Call → Call → ℕ → ℕ → Type 0
+Echoes cs c peer own =
+    let x = entryOf initiator cs c in
+    let echo = echoSince (x ∷ history initiator cs) in
+    (leaving x ≡ 1) × (echo .peer .0 ≡ peer) × (echo .own .0 ≡ own)
+    × ((numberAt 4 (x .result .out) 7 ≡ echo .peer .0 % 2 ^ 32) × (numberAt 4 (x .result .out) 11 ≡ echo .own .0 % 2 ^ 32))
+
+-- kind 1 echoes nothing; a datum from the queue echoes kind 4, which was sent at 60 and came at 115
+abbrev pub FirstEchoesNothing : Type 0
+FirstEchoesNothing = Echoes (tick 100 ∷ []) (confirm 103) 0 0
+
+abbrev pub SixthEchoesTheLast : Type 0
+SixthEchoesTheLast = Echoes (callsIn untilFull) (tick 129) 60 115

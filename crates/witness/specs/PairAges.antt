@@ -9,7 +9,8 @@ use Rattle.rules.specs.declared.state.Life.the-variants.{Up}
 use Rattle.pair.specs.Among.{Among}
 use Rattle.pair.specs.World.{Letter, Delivery, Side, World, clockOf, trueAge}
 use Rattle.pair.specs.Channel.{MayHandOver}
-use Rattle.pair.specs.Event.{resultAt, answerIn}
+use Rattle.rules.specs.Claims.{answerOf}
+use Rattle.pair.specs.Happening.{resultAt}
 use Rattle.pair.specs.Run.{Lawful}
 use Rattle.pair.specs.Age.{computedAge, measuredSpread, AgeBounded, Timely, LateIndeed}
 use Rattle.witness.specs.Ends.{stamped}
@@ -33,7 +34,7 @@ pub record Aged (w : World) (to from : Side) (m : Letter) (h : Header) (age comp
 pub record ComesLate (w : World) (to from : Side) (m : Letter) (h : Header) (age computed spread : ℕ) : Type 0 where
   pub aged : Aged w to from m h age computed spread
   pub may : Lawful w to from (comes m)
-  pub answer : answerIn (resultAt (w .time) to (comes m)) ≡ 11
+  pub answer : answerOf (resultAt (w .time) to (comes m)) ≡ 11
   pub late : LateIndeed w to (comes m)
 
 -- ---- in the long run
@@ -55,7 +56,7 @@ abbrev pub AgedToTheLimit : Type 0
 AgedToTheLimit =
     let w = reachedLater start untilAnswered 45 in
     Aged w (w .right) (w .left) l5 (stamped 5 (l 180) (r 167) (l 175)) 45 50 11
-    × (answerIn (resultAt (w .time) (w .right) (comes l5)) ≡ 0)
+    × (answerOf (resultAt (w .time) (w .right) (comes l5)) ≡ 0)
 
 -- one tick more: it is late, though truly not so old
 abbrev pub OneIsLate : Type 0

@@ -7,13 +7,14 @@ use Rattle.rules.specs.declared.state.Life.the-variants.{Up}
 use Rattle.pair.specs.World.{Letter, World}
 use Rattle.pair.specs.Channel.{MayHandOver}
 use Rattle.pair.specs.Run.{Beginning, Lawful}
+use Rattle.rules.specs.declared.state.Role.the-variants.{Initiator, Called}
 use Rattle.witness.specs.Ends.{settings, bare, estimate, train}
-use Rattle.witness.specs.Table.Output.{ask, accept, send, give, up}
+use Rattle.rules.specs.Outputs.Output.{ask, accept, send, datum as give, up}
 use Rattle.witness.specs.PairTable.{made, beginning, letter, of, tick, connect, confirm, disconnect, user, comes, Row, reached, Happens}
 use Rattle.witness.specs.PairTable.Row.{left, right}
 
 abbrev pub start : Beginning
-start = beginning (made settings 100) (made settings 40)
+start = beginning (made Initiator settings 100) (made Called settings 40)
 
 abbrev pub l : ℕ → ℕ
 l time = time + 100

@@ -5,22 +5,24 @@ use mathlib.Core.List.{List, [], _∷_, _++_}
 use mathlib.Core.Path.{_≡_}
 use Rattle.rules.specs.declared.settings.Settings.{Settings}
 use Rattle.pair.specs.World.{Letter}
-use Rattle.pair.specs.Event.{resultAt, answerIn}
+use Rattle.rules.specs.Claims.{answerOf}
+use Rattle.pair.specs.Happening.{resultAt}
 use Rattle.pair.specs.Run.{Beginning}
 use Rattle.pair.specs.Age.{shortfall}
+use Rattle.rules.specs.declared.state.Role.the-variants.{Initiator, Called}
 use Rattle.witness.specs.Ends.{stamped, bare, estimate, train}
-use Rattle.witness.specs.Table.Output.{ask, accept, send, give, up, error}
+use Rattle.rules.specs.Outputs.Output.{ask, accept, send, datum as give, up, error}
 use Rattle.witness.specs.PairTable.{made, beginning, letter, tick, connect, confirm, user, comes, delivery, Row, reached, reachedLater, Happens}
 use Rattle.witness.specs.PairTable.Row.{left, right}
 use Rattle.witness.specs.PairAges.{Aged, ComesLate, DeliveredAt}
 
--- the settings of the paper's example, with another W
+-- the settings of the script's example, with another W
 abbrev pub within : ℕ → Settings
 within w = record { age = 50; spread = w; silence = 300; «life_sign» = 100; wait = 500; retry = 1_000; jump = 4; errors = 2 }
 
 -- the called end's W is 0; its clock wraps at time 20
 abbrev pub sharply : Beginning
-sharply = beginning (made (within 20) 1_000) (made (within 0) (2 ^ 32 - 20))
+sharply = beginning (made Initiator (within 20) 1_000) (made Called (within 0) (2 ^ 32 - 20))
 
 abbrev pub l : ℕ → ℕ
 l time = time + 1_000
@@ -116,14 +118,14 @@ abbrev pub AgeIsAboveByTheSpread : Type 0
 AgeIsAboveByTheSpread =
     let w = reachedLater sharply sharpStart 30 in
     Aged w (w .left) (w .right) r2 (stamped 2 (r 20) (l 20) (r 20)) 30 50 20
-    × (answerIn (resultAt (w .time) (w .left) (comes r2)) ≡ 0)
+    × (answerOf (resultAt (w .time) (w .left) (comes r2)) ≡ 0)
 
 -- truly 50, computed 50 and delivered
 abbrev pub AgeIsTrue : Type 0
 AgeIsTrue =
     let w = reachedLater sharply sharpStart 50 in
     Aged w (w .right) (w .left) l3 (stamped 3 (l 20) (r 20) (l 20)) 50 50 0
-    × (answerIn (resultAt (w .time) (w .right) (comes l3)) ≡ 0)
+    × (answerOf (resultAt (w .time) (w .right) (comes l3)) ≡ 0)
 
 -- so nothing less than the age limit bounds the true age of what is delivered
 abbrev pub DeliveredAtTheLimit : Type 0

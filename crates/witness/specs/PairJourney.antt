@@ -6,13 +6,14 @@ use mathlib.Core.Path.{_≡_}
 use Rattle.rules.specs.declared.state.Life.the-variants.{Up}
 use Rattle.pair.specs.World.{Letter}
 use Rattle.pair.specs.Run.{Beginning}
+use Rattle.rules.specs.declared.state.Role.the-variants.{Initiator, Called}
 use Rattle.witness.specs.Ends.{settings, bare, estimate, lifeSign, train}
-use Rattle.witness.specs.Table.Output.{ask, accept, send, give, up, error, down}
+use Rattle.rules.specs.Outputs.Output.{ask, accept, send, datum as give, up, error, down}
 use Rattle.witness.specs.PairTable.{made, beginning, letter, tick, connect, confirm, disconnect, user, comes, Row, reached, Happens}
 use Rattle.witness.specs.PairTable.Row.{left, right}
 
 abbrev pub start : Beginning
-start = beginning (made settings (2 ^ 32 - 150)) (made settings 3_000_000_000)
+start = beginning (made Initiator settings (2 ^ 32 - 150)) (made Called settings 3_000_000_000)
 
 -- what the clock of the initiator, and that of the called end, reads at a time
 abbrev pub l : ℕ → ℕ

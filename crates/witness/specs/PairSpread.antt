@@ -1,4 +1,4 @@
--- The paper's example of a clock start, between two ends: the spreads are 9 and 7. Limits of 9 and 7 let both ends come Up; with
+-- The worked clock start of docs/RULES.md, between two ends: the spreads are 9 and 7. Limits of 9 and 7 let both ends come Up; with
 -- either limit one less, the end whose limit it is answers 8.
 use Prim.Native.Nat.{ℕ}
 use mathlib.Core.List.{List, [], _∷_, _++_}
@@ -7,15 +7,16 @@ use Rattle.rules.specs.declared.state.Life.the-variants.{Idle, Up}
 use Rattle.pair.specs.World.{Letter}
 use Rattle.pair.specs.Run.{Beginning}
 use Rattle.pair.specs.Age.{measuredSpread}
+use Rattle.rules.specs.declared.state.Role.the-variants.{Initiator, Called}
 use Rattle.witness.specs.Ends.{bare, estimate}
-use Rattle.witness.specs.Table.Output.{ask, accept, send, up, release}
+use Rattle.rules.specs.Outputs.Output.{ask, accept, send, up, release}
 use Rattle.witness.specs.PairTable.{made, beginning, letter, tick, connect, confirm, comes, Row, reached, Happens}
 use Rattle.witness.specs.PairTable.Row.{left, right}
 use Rattle.witness.specs.PairEdges.{within}
 
 -- the initiator's clock is 998 ticks ahead of the called end's; their W are these
-abbrev pub paper : ℕ → ℕ → Beginning
-paper leftSpread rightSpread = beginning (made (within leftSpread) 5_000) (made (within rightSpread) 4_002)
+abbrev pub worked : ℕ → ℕ → Beginning
+worked leftSpread rightSpread = beginning (made Initiator (within leftSpread) 5_000) (made Called (within rightSpread) 4_002)
 
 abbrev pub l0 : Letter
 l0 = letter 1 0 0 0 (bare 1 0 5_000 0 0)
@@ -55,11 +56,11 @@ wholeStart = opening ++ (measured ++ settled)
 
 -- both limits are reached, and both ends come Up
 pub record JustNarrow : Type 0 where
-  pub happens : Happens (paper 9 7) wholeStart
-  pub leftSpread : measuredSpread (reached (paper 9 7) wholeStart .left) ≡ 9
-  pub rightSpread : measuredSpread (reached (paper 9 7) wholeStart .right) ≡ 7
-  pub leftUp : reached (paper 9 7) wholeStart .left .end .life ≡ Up
-  pub rightUp : reached (paper 9 7) wholeStart .right .end .life ≡ Up
+  pub happens : Happens (worked 9 7) wholeStart
+  pub leftSpread : measuredSpread (reached (worked 9 7) wholeStart .left) ≡ 9
+  pub rightSpread : measuredSpread (reached (worked 9 7) wholeStart .right) ≡ 7
+  pub leftUp : reached (worked 9 7) wholeStart .left .end .life ≡ Up
+  pub rightUp : reached (worked 9 7) wholeStart .right .end .life ≡ Up
 
 -- the initiator's limit is 8: it refuses what it accepted above
 abbrev pub leftRefuses : List Row
@@ -70,7 +71,7 @@ abbrev pub rightRefuses : List Row
 rightRefuses = opening ++ (measured ++ (right 2 (comes l1) 8 (release ∷ []) ∷ []))
 
 pub record JustTooWide : Type 0 where
-  pub left : Happens (paper 8 7) leftRefuses
-  pub right : Happens (paper 9 6) rightRefuses
-  pub leftIdle : reached (paper 8 7) leftRefuses .left .end .life ≡ Idle
-  pub rightIdle : reached (paper 9 6) rightRefuses .right .end .life ≡ Idle
+  pub left : Happens (worked 8 7) leftRefuses
+  pub right : Happens (worked 9 6) rightRefuses
+  pub leftIdle : reached (worked 8 7) leftRefuses .left .end .life ≡ Idle
+  pub rightIdle : reached (worked 9 6) rightRefuses .right .end .life ≡ Idle

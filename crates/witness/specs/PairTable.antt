@@ -7,20 +7,25 @@ use Rattle.queue.specs.Ring.{size}
 use Rattle.rules.specs.declared.act.Event.{Event}
 use Rattle.rules.specs.declared.act.Event.the-variants.{Tick, Connect, Confirm, Disconnect, Data, Message}
 use Rattle.rules.specs.declared.settings.Settings.{Settings}
+use Rattle.rules.specs.declared.state.Role.{Role}
 use Rattle.pair.specs.World.{Letter, Datum, Delivery, World}
-use Rattle.pair.specs.Event.{Call, resultAt, answerIn}
-use Rattle.pair.specs.Run.{Making, Beginning, Sound, Move, Run, begun, next, after}
+use Rattle.rules.specs.Claims.{answerOf}
+use Rattle.pair.specs.Happening.{Happening, resultAt}
+use Rattle.pair.specs.Run.{Origin, Beginning, SoundBeginning, Move, Run, begun, next, after}
 use Rattle.pair.specs.Run.Move.{wait, atLeft, atRight}
 use Rattle.witness.specs.Ends.{reading, roomy}
-use Rattle.witness.specs.Table.{Output, outputsOf}
+use Rattle.rules.specs.Outputs.{Output}
+use Rattle.witness.specs.Table.{outputsIn}
 
 -- ---- how a run begins
 
 -- an end that is made at time 0, with a clock that many ticks ahead
-abbrev pub made : Settings → ℕ → Making
-made settings bias = record { settings = settings; reading = reading bias; bias = bias; queue = replicate size 0 }
+abbrev pub made : Role → Settings → ℕ → Origin
+made role settings bias =
+    record { making = record { role = role; at = reading bias; settings = settings; queue = replicate size 0 }; bias = bias }
 
-abbrev pub beginning : Making → Making → Beginning
+-- an initiator and a called end
+abbrev pub beginning : Origin → Origin → Beginning
 beginning left right = record { time = 0; left = left; right = right }
 
 -- ---- letters, data and deliveries
@@ -42,35 +47,39 @@ delivery connection time l = record { letter = l; connection = connection; time 
 abbrev pub noLetter : Letter
 noLetter = letter 0 0 0 0 []
 
-abbrev pub call : Event → List ℕ → Letter → ℕ → Call
+abbrev pub call : Event → List ℕ → Letter → ℕ → Happening
 call event given l ask = record { event = event; given = given; letter = l; out = roomy; ask = ask }
 
-abbrev pub tick : Call
+abbrev pub tick : Happening
 tick = call Tick [] noLetter 0
 
 -- a connect indication, for the ask of this name
-abbrev pub connect : ℕ → Call
+abbrev pub connect : ℕ → Happening
 connect ask = call Connect [] noLetter ask
 
-abbrev pub confirm : Call
+-- one that answers no ask
+abbrev pub stray : Happening
+stray = connect 0
+
+abbrev pub confirm : Happening
 confirm = call Confirm [] noLetter 0
 
-abbrev pub disconnect : Call
+abbrev pub disconnect : Happening
 disconnect = call Disconnect [] noLetter 0
 
-abbrev pub user : List ℕ → Call
+abbrev pub user : List ℕ → Happening
 user given = call Data given noLetter 0
 
 -- the channel hands over a letter
-abbrev pub comes : Letter → Call
+abbrev pub comes : Letter → Happening
 comes l = call Message [] l 0
 
 -- ---- tables
 
 -- so many ticks later something happens at the initiator, or at the called end: the number that answers it, and the outputs
 pub data Row : Type 0 where
-  left : ℕ → Call → ℕ → List Output → Row
-  right : ℕ → Call → ℕ → List Output → Row
+  left : ℕ → Happening → ℕ → List Output → Row
+  right : ℕ → Happening → ℕ → List Output → Row
 
 -- the moves of a table, the newest first
 abbrev pub movesAfter : List Move → List Row → List Move
@@ -95,14 +104,14 @@ ruled w [] = []
 ruled w (left n c answer outputs ∷ xs) =
     let v = next w (wait n) in
     let r = resultAt (v .time) (v .left) c in
-    left n c (answerIn r) (outputsOf r) ∷ ruled (next v (atLeft c)) xs
+    left n c (answerOf r) (outputsIn r) ∷ ruled (next v (atLeft c)) xs
 ruled w (right n c answer outputs ∷ xs) =
     let v = next w (wait n) in
     let r = resultAt (v .time) (v .right) c in
-    right n c (answerIn r) (outputsOf r) ∷ ruled (next v (atRight c)) xs
+    right n c (answerOf r) (outputsIn r) ∷ ruled (next v (atRight c)) xs
 
 -- both ends can be made so, each move is one that may be made, and all is answered and put out as the table says
 pub record Happens (b : Beginning) (xs : List Row) : Type 0 where
-  pub sound : Sound b
+  pub sound : SoundBeginning b
   pub run : Run b (movesIn xs)
   pub rows : ruled (begun b) xs ≡ xs

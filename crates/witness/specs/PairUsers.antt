@@ -2,10 +2,10 @@
 use Prim.Native.Nat.{ℕ}
 use mathlib.Core.List.{List, [], _∷_}
 use mathlib.Core.Path.{_≡_}
-use Rattle.link.specs.declared.effect.Front.the-variants.{Datum as datum}
+use Rattle.rules.specs.declared.effect.Front.the-variants.{Datum as datum}
 use Rattle.pair.specs.Among.{Picked}
 use Rattle.pair.specs.World.{Datum, Side, World}
-use Rattle.pair.specs.Event.{Call, resultAt}
+use Rattle.pair.specs.Happening.{Happening, resultAt}
 use Rattle.pair.specs.Run.{Lawful}
 use Rattle.pair.specs.Users.{TheUsers}
 use Rattle.witness.specs.PairTable.{of, comes, reachedLater}
@@ -40,7 +40,7 @@ pub record UsersTalk : Type 0 where
 -- ---- one event
 
 -- data that may be handed over stand at the front of the output, and are the other user's: `DataAreTheUsers`
-pub record Gives (w : World) (to from : Side) (c : Call) (n : ℕ) : Type 0 where
+pub record Gives (w : World) (to from : Side) (c : Happening) (n : ℕ) : Type 0 where
   pub may : Lawful w to from c
   pub front : resultAt (w .time) to c .outcome .front ≡ datum n
   pub users : TheUsers w to from c n

@@ -1,4 +1,4 @@
--- The example of the paper, played in pieces.
+-- The example of the Sunday script, played in pieces.
 use Prim.Native.Nat.{_-_, _≤_}
 use mathlib.Core.Bool.{true, false}
 use mathlib.Core.List.{[], _++_}
@@ -6,7 +6,7 @@ use mathlib.Core.Path.{_≡_}
 use lib.ListN.{length, take, drop}
 use Rattle.script.specs.Example.{example}
 use Rattle.script.specs.Play.{Piece, played}
-use Rattle.script.specs.Reply.{lineRoom}
+use Rattle.script.specs.Lines.{lineRoom}
 use Rattle.script.specs.Script.{atFirst, printedFrom}
 
 -- all of it as the last piece, into a text of 1,000 bytes: there is room for another line afterwards, and it has printed everything

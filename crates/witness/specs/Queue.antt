@@ -3,7 +3,7 @@ use Prim.Native.Nat.{ℕ, _<_}
 use mathlib.Core.List.{List, [], _∷_, _++_}
 use mathlib.Core.Path.{_≡_}
 use lib.ListN.{length, getD, replicate}
-use Rattle.queue.specs.Ring.{places, size, emptyRing, waitingIn, entries, oldestIn, takenFrom, putRing, putBytes, Sendable}
+use Rattle.queue.specs.Ring.{places, size, emptyRing, waitingIn, entries, oldestIn, withoutOldest, putRing, putBytes, Sendable}
 use Rattle.queue.specs.declared.Ring.{Ring}
 
 -- one datum waits, at the last place
@@ -35,8 +35,8 @@ holdingTwo = putBytes holdingOne oneWaits second
 abbrev pub FirstLeaves : Type 0
 FirstLeaves =
     (0 < twoWait .count) × (oldestIn holdingTwo twoWait ≡ 5 ∷ 6 ∷ [])
-    × (entries holdingTwo (takenFrom twoWait) ≡ second ∷ [])
-    × (entries holdingTwo twoWait ≡ oldestIn holdingTwo twoWait ∷ entries holdingTwo (takenFrom twoWait))
+    × (entries holdingTwo (withoutOldest twoWait) ≡ second ∷ [])
+    × (entries holdingTwo twoWait ≡ oldestIn holdingTwo twoWait ∷ entries holdingTwo (withoutOldest twoWait))
 
 -- the second can be sent, and so can what stands at the head of a queue of any bytes: `EntriesSendable`, `OldestSendable`
 abbrev pub SecondIsSendable : Type 0
@@ -53,7 +53,7 @@ AnyBytesAreSendable =
 
 -- none leaves where none waits: `TakesNone`
 abbrev pub NoneLeaves : Type 0
-NoneLeaves = (lastPlace .count ≡ 0) × (takenFrom lastPlace ≡ lastPlace)
+NoneLeaves = (lastPlace .count ≡ 0) × (withoutOldest lastPlace ≡ lastPlace)
 
 -- eight wait, or there are no data, or too many bytes, and nothing changes: `PutElseNothing`
 abbrev pub full : Ring

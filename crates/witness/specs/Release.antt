@@ -4,8 +4,8 @@ use mathlib.Core.List.{List, _∷_}
 use mathlib.Core.Path.{_≡_}
 use Prim.Native.Nat.{ℕ}
 use Rattle.rules.specs.declared.state.Life.the-variants.{Idle}
-use Rattle.history.specs.Run.{Call, after, entryOf}
-use Rattle.history.specs.Seen.{seen, seenOf, standsUp}
+use Rattle.run.specs.Run.{Call, after, entryOf}
+use Rattle.history.specs.Seen.{seen, seenOf, numberIn, standsUp}
 use Rattle.witness.specs.Ends.{initiator}
 use Rattle.witness.specs.Table.{Row, callsIn, ran, next}
 use Rattle.witness.specs.Initiator.{rising, inTurn, repeated, untilLate, again, untilAsked, wrongEcho}
@@ -14,7 +14,7 @@ use Rattle.witness.specs.Initiator.{rising, inTurn, repeated, untilLate,
 abbrev pub Releases : List Row → Call → ℕ → Bool → Type 0
 Releases xs c n up =
     let x = seenOf (next initiator xs c) in
-    (x .answer ≡ n) × (standsUp (seen (ran initiator xs)) ≡ up) × (x .flags .release ≡ true)
+    (numberIn x ≡ n) × (standsUp (seen (ran initiator xs)) ≡ up) × (x .flags .release ≡ true)
     × ((after initiator (c ∷ callsIn xs) .end .life ≡ Idle) × (x .flags .down ≡ standsUp (seen (ran initiator xs))))
 
 -- the second failure of two
@@ -29,4 +29,4 @@ ReleasesStarting = Releases untilAsked wrongEcho 8 false
 abbrev pub ReleasesNothing : Type 0
 ReleasesNothing =
     let x = seenOf (entryOf initiator (inTurn ∷ callsIn rising) repeated) in
-    (x .answer ≡ 9) × (x .flags .release ≡ false)
+    (numberIn x ≡ 9) × (x .flags .release ≡ false)

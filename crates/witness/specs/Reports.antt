@@ -3,28 +3,30 @@
 use mathlib.Core.Bool.{true, false}
 use mathlib.Core.List.{List, [], _∷_, _++_}
 use mathlib.Core.Path.{_≡_}
-use Rattle.history.specs.Events.{isAccepted}
-use Rattle.history.specs.Seen.{seen, seenOf, standsUp}
+use Rattle.run.specs.Events.{isYes, isDatumAt}
+use Rattle.history.specs.Seen.{seen, seenOf, numberIn, standsUp}
 use Rattle.history.specs.Reports.{Sign, trace}
-use Rattle.history.specs.Reports.Sign.{answer, ask, accept, send, datum, up, error, release, down}
+use Rattle.history.specs.Reports.Sign.{answer, output}
+use Rattle.rules.specs.Outputs.{Output}
+use Rattle.rules.specs.Outputs.Output.{ask, accept, send, datum, up, error, release, down}
 use Rattle.witness.specs.Ends.{initiator}
 use Rattle.witness.specs.Table.{ran, next}
 use Rattle.witness.specs.Initiator.{rising, inTurn, untilHeard, gapped, untilLate, untilDown, untilUpAgain, longRun}
 
-abbrev pub upOrDown : Sign → List Sign
-upOrDown (answer n) = []
+abbrev pub upOrDown : Output → List Output
 upOrDown ask = []
 upOrDown accept = []
-upOrDown send = []
-upOrDown datum = []
+upOrDown (send s) = []
+upOrDown (datum s) = []
 upOrDown up = up ∷ []
 upOrDown error = []
 upOrDown release = []
 upOrDown down = down ∷ []
 
-abbrev pub upsAndDowns : List Sign → List Sign
+abbrev pub upsAndDowns : List Sign → List Output
 upsAndDowns [] = []
-upsAndDowns (s ∷ ss) = upOrDown s ++ upsAndDowns ss
+upsAndDowns (answer a ∷ ss) = upsAndDowns ss
+upsAndDowns (output o ∷ ss) = upOrDown o ++ upsAndDowns ss
 
 abbrev pub UpsAndDowns : Type 0
 UpsAndDowns = upsAndDowns (trace (seen (ran initiator longRun))) ≡ up ∷ down ∷ up ∷ down ∷ []
@@ -39,10 +41,10 @@ StandsUpTwice =
 abbrev pub DataInTurn : Type 0
 DataInTurn =
     let x = seenOf (next initiator rising inTurn) in
-    (x .datum ≡ true) × (x .answer ≡ 0) × (isAccepted (x .answer) ≡ true)
+    (isDatumAt (x .front) ≡ true) × (numberIn x ≡ 0) × (isYes (numberIn x) ≡ true)
 
 -- and with the answer 13, and an error report
 abbrev pub DataAfterGap : Type 0
 DataAfterGap =
     let x = seenOf (next initiator untilHeard gapped) in
-    (x .datum ≡ true) × (x .answer ≡ 13) × (x .flags .error ≡ true) × (isAccepted (x .answer) ≡ true)
+    (isDatumAt (x .front) ≡ true) × (numberIn x ≡ 13) × (x .flags .error ≡ true) × (isYes (numberIn x) ≡ true)

@@ -3,8 +3,8 @@ use Prim.Native.Nat.{ℕ}
 use mathlib.Core.List.{List, [], _∷_, _++_}
 use mathlib.Core.Path.{_≡_}
 use Rattle.rules.specs.declared.state.Life.the-variants.{Idle, Up}
-use Rattle.history.specs.Run.{Sound}
-use Rattle.history.specs.Sending.{takenIn, sentIn, lostIn, waiting, inConnection}
+use Rattle.run.specs.Run.{Sound}
+use Rattle.history.specs.Sending.{handedIn, sentIn, lostIn, waiting, inConnection}
 use Rattle.witness.specs.Ends.{initiator}
 use Rattle.witness.specs.Table.{Row, ran, left}
 use Rattle.witness.specs.Initiator.{untilFull, untilDown, untilUpAgain}
@@ -14,14 +14,14 @@ abbrev pub single : List ℕ → List (List ℕ)
 single [] = []
 single (x ∷ xs) = (x ∷ []) ∷ single xs
 
--- the data of a connection that were taken; those sent, those lost and those that wait
+-- the data of a connection that were handed in; those sent, those lost and those that wait
 abbrev pub Moves : List Row → List ℕ → List ℕ → List ℕ → List ℕ → Type 0
-Moves xs taken sent lost waits =
-    (inConnection takenIn (ran initiator xs) ≡ single taken)
+Moves xs handed sent lost waits =
+    (inConnection handedIn (ran initiator xs) ≡ single handed)
     × (inConnection sentIn (ran initiator xs) ≡ single sent)
     × (inConnection lostIn (ran initiator xs) ≡ single lost)
     × (waiting (left initiator xs) ≡ single waits)
-    × (inConnection takenIn (ran initiator xs)
+    × (inConnection handedIn (ran initiator xs)
     ≡ inConnection sentIn (ran initiator xs) ++ (inConnection lostIn (ran initiator xs) ++ waiting (left initiator xs)))
 
 -- Up, and eight wait: nothing is lost

@@ -4,9 +4,9 @@ use mathlib.Core.Bool.{false}
 use mathlib.Core.Path.{_≡_}
 use Rattle.judge.specs.Clock.{sinceOf}
 use Rattle.rules.specs.declared.state.Life.the-variants.{Idle, Up}
-use Rattle.link.specs.Claims.{answerOf}
-use Rattle.history.specs.Run.{Sound}
-use Rattle.history.specs.Timed.{isPassedBy}
+use Rattle.rules.specs.Claims.{answerOf}
+use Rattle.run.specs.Run.{Sound}
+use Rattle.run.specs.Events.{isPassedBy}
 use Rattle.witness.specs.Ends.{initiator, tick}
 use Rattle.witness.specs.Table.{next}
 use Rattle.witness.specs.Initiator.{rising}
@@ -14,7 +14,7 @@ use Rattle.witness.specs.Initiator.{rising}
 abbrev pub StaysUp : Type 0
 StaysUp =
     let x = next initiator rising (tick 414) in
-    let since = sinceOf (tick 414 .at) (x .result .outcome .end .line .heard) in
+    let since = sinceOf (tick 414 .at) (x .result .outcome .end .line .times .heard) in
     Sound initiator × (isPassedBy (initiator .role) (tick 414 .event) ≡ false) × (answerOf (x .result) ≡ 2 → ⊥)
     × (answerOf (x .result) ≡ 14 → ⊥)
     × (x .result .outcome .end .life ≡ Up)

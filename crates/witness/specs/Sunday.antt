@@ -1,9 +1,9 @@
--- The paper's example of a script: its calls after the making, which is answered 0, and what they come to.
+-- The example of the Sunday script: its calls after the making, which is answered 0, and what they come to.
 use Prim.Native.Nat.{ℕ}
 use mathlib.Core.List.{List, [], _∷_}
 use Rattle.witness.specs.Ends.{initiator, tick, confirm}
 use Rattle.witness.specs.Table.{Row, row, Happens}
-use Rattle.witness.specs.Table.Output.{ask, send, release}
+use Rattle.rules.specs.Outputs.Output.{ask, send, release}
 
 -- the bytes 01 00 00 00 00 00 67 and eight of 00
 abbrev pub firstBytes : List ℕ

@@ -2,9 +2,9 @@
 use Prim.Native.Nat.{ℕ, _≤_}
 use mathlib.Core.Bool.{true, false}
 use mathlib.Core.List.{List, [], _∷_}
-use mathlib.Core.Logic.{_⊎_}
 use mathlib.Core.Path.{_≡_}
 use Rattle.judge.specs.Clock.{sinceOf}
+use Rattle.rules.specs.Living.{mayAsk}
 use Rattle.rules.specs.State.{phaseOf}
 use Rattle.rules.specs.declared.act.Event.{Event}
 use Rattle.rules.specs.declared.act.Event.the-variants.{Tick, Message}
@@ -12,11 +12,11 @@ use Rattle.rules.specs.declared.state.Role.the-variants.{Initiator}
 use Rattle.rules.specs.declared.state.Life.the-variants.{Idle, Calling}
 use Rattle.rules.specs.declared.state.Phase.the-variants.{Starting as starting}
 use Rattle.rules.specs.declared.state.End.{End}
-use Rattle.link.specs.Claims.{answerOf}
-use Rattle.link.specs.Step.{stepped}
-use Rattle.history.specs.Run.{after}
+use Rattle.rules.specs.Claims.{answerOf}
+use Rattle.rules.specs.Step.{stepped}
+use Rattle.run.specs.Run.{after}
 use Rattle.history.specs.Delivery.{IsTaken}
-use Rattle.history.specs.Events.{isIndication}
+use Rattle.run.specs.Events.{isIndication}
 use Rattle.witness.specs.Ends.{initiator, reading, roomy, tick, confirm, disconnect, bare}
 
 -- ---- an overdue start: `OverdueStartEnds`
@@ -44,7 +44,7 @@ OverdueAtMessage = IsOverdue Message (bare 2 0 50 103 50)
 abbrev pub MakesAsk : End → ℕ → Type 0
 MakesAsk e n =
     (e .life ≡ Idle) × (e .role ≡ Initiator) × IsTaken e (reading n) roomy
-    × ((e .«at_once» ≡ true) ⊎ (e .settings .retry ≤ sinceOf (reading n) (e .asked)))
+    × (mayAsk e (reading n) ≡ true)
     × (let r = stepped e Tick (reading n) [] roomy (initiator .queue) in
     (answerOf r ≡ 0) × (r .outcome .end .life ≡ Calling) × (r .outcome .flags .ask ≡ true))
 
@@ -57,4 +57,4 @@ abbrev pub refused : End
 refused = after initiator (disconnect 104 ∷ confirm 103 ∷ tick 100 ∷ []) .end
 
 abbrev pub AsksAgain : Type 0
-AsksAgain = (refused .«at_once» ≡ false) × MakesAsk refused 1_100
+AsksAgain = (refused .asking .«at_once» ≡ false) × MakesAsk refused 1_100

@@ -5,8 +5,9 @@ use mathlib.Core.List.{List, [], _∷_}
 use mathlib.Core.Path.{_≡_}
 use lib.ListN.{length}
 use lib.Seq.{sets}
+use Rattle.judge.specs.declared.clock.Offset.{Offset}
 use Rattle.wire.specs.Bytes.{bytesOf, numberAt, AreBytes}
-use Rattle.wire.specs.Message.{encode, parse, dataIn}
+use Rattle.wire.specs.Message.{encode, parse, trainIn}
 use Rattle.wire.specs.Writing.{carries}
 use Rattle.wire.specs.Claims.{Fits, carried}
 use Rattle.wire.specs.declared.message.Body.{Body}
@@ -39,6 +40,9 @@ ThousandWritesBack =
 abbrev pub messageOf : Body → Message
 messageOf body = record { header = stamped 258 70 115 66; body = body }
 
+abbrev pub offset : ℕ → Offset
+offset n = record { 0 = n }
+
 -- the train data, which only a body of train data carries
 abbrev pub pair : List ℕ
 pair = 7 ∷ 8 ∷ []
@@ -46,12 +50,12 @@ pair = 7 ∷ 8 ∷ []
 abbrev pub BodyReadsBack : Body → Type 0
 BodyReadsBack body =
     Fits (messageOf body) × (carries body pair ≡ true)
-    × ((parse (encode (messageOf body) pair) ≡ WellFormed (messageOf body)) × (carried body (dataIn (encode (messageOf body) pair)) ≡ carried body pair))
+    × ((parse (encode (messageOf body) pair) ≡ WellFormed (messageOf body)) × (carried body (trainIn (encode (messageOf body) pair)) ≡ carried body pair))
 
 abbrev pub EachReadsBack : Type 0
 EachReadsBack =
     BodyReadsBack OffsetStart × BodyReadsBack OffsetAnsw1 × BodyReadsBack OffsetAnsw2
-    × BodyReadsBack (OffsetEst 4_294_967_237 4_294_967_247)
+    × BodyReadsBack (OffsetEst (offset 4_294_967_237) (offset 4_294_967_247))
     × BodyReadsBack OffsetEnd
     × BodyReadsBack LifeSign
     × BodyReadsBack TrainData
@@ -63,4 +67,4 @@ eighteen = 6 ∷ 1 ∷ 2 ∷ 0 ∷ 0 ∷ 0 ∷ 70 ∷ 0 ∷ 0 ∷ 0 ∷ 115 ∷ 
 abbrev pub EighteenWriteBack : Type 0
 EighteenWriteBack =
     AreBytes eighteen × (parse eighteen ≡ WellFormed (messageOf TrainData))
-    × (Fits (messageOf TrainData) × (carries TrainData (dataIn eighteen) ≡ true) × (encode (messageOf TrainData) (dataIn eighteen) ≡ eighteen))
+    × (Fits (messageOf TrainData) × (carries TrainData (trainIn eighteen) ≡ true) × (encode (messageOf TrainData) (trainIn eighteen) ≡ eighteen))

@@ -1,11 +1,14 @@
 -- Events at which the claims of one event say something: refusals, ends that hold nothing, and each move of the queue.
-use Prim.Native.Nat.{ℕ, _≤_}
+use Prim.Native.Nat.{ℕ}
 use mathlib.Core.Bool.{true, false}
 use mathlib.Core.List.{List, [], _∷_, _++_}
 use mathlib.Core.Logic.{_⊎_}
 use mathlib.Core.Path.{_≡_}
-use lib.ListN.{length}
+use lib.ListN.{length, take}
 use Rattle.queue.specs.Ring.{size, emptyRing, entries}
+use Rattle.wire.specs.Message.{parse}
+use Rattle.wire.specs.declared.message.Message.{Message}
+use Rattle.wire.specs.declared.message.Parsed.the-variants.{WellFormed}
 use Rattle.rules.specs.State.{blankLine}
 use Rattle.rules.specs.declared.act.Event.the-variants.{Tick}
 use Rattle.rules.specs.declared.answer.Answer.the-variants.{Handled, OutOfRange}
@@ -13,17 +16,20 @@ use Rattle.rules.specs.declared.settings.Settings.{Settings}
 use Rattle.rules.specs.declared.state.Role.the-variants.{Initiator}
 use Rattle.rules.specs.declared.state.Life.the-variants.{Idle, Up}
 use Rattle.rules.specs.declared.state.End.{End}
-use Rattle.link.specs.Claims.{StepPromise, MakePromise, answerOf, quietly, IdleHoldsNothing}
-use Rattle.link.specs.Make.{freshEnd, madeOf}
-use Rattle.link.specs.Perform.{askedEnd, notedEnd}
-use Rattle.link.specs.Step.{Result}
-use Rattle.link.specs.declared.effect.Front.the-variants.{Nothing as none}
-use Rattle.link.specs.declared.make.Made.{Made}
-use Rattle.link.specs.declared.make.Made.the-variants.{Fresh, Refused}
-use Rattle.history.specs.Run.{Call, cameTo}
+use Rattle.rules.specs.Answers.{leavesOf, Leaving}
+use Rattle.rules.specs.Answers.Leaving.{everything, new-reading, down, error-report, delivered}
+use Rattle.rules.specs.Leaves.{Left}
+use Rattle.rules.specs.Claims.{StepPromise, MakePromise, answerOf, IdleHoldsNothing}
+use Rattle.rules.specs.Make.{freshEnd, madeOf}
+use Rattle.rules.specs.Ends.{askedEnd}
+use Rattle.rules.specs.Step.{Result}
+use Rattle.rules.specs.declared.effect.Front.the-variants.{Nothing as none, Message as message}
+use Rattle.rules.specs.declared.effect.Made.{Made}
+use Rattle.rules.specs.declared.effect.Made.the-variants.{Fresh, Refused}
+use Rattle.run.specs.Run.{Call, cameTo}
 use Rattle.witness.specs.Ends.{settings, initiator, reading, roomy, tick, crampedTick, user, comes, bare, lifeSign}
 use Rattle.witness.specs.Table.{Row, left}
-use Rattle.witness.specs.Initiator.{untilFull, untilHeard, gapped, untilLate, again, untilDown}
+use Rattle.witness.specs.Initiator.{untilFull, untilHeard, gapped, untilLate, again, untilDown, untilAsked, wrongEcho}
 use Rattle.witness.specs.Answers.{unsettled}
 
 -- ---- the promises are kept by results that are written out: `OneResult` and `OneEnd`
@@ -60,32 +66,38 @@ OnlyMakes settings m =
 abbrev pub EndsArePromised : Type 0
 EndsArePromised = OnlyMakes settings (Fresh fresh) × OnlyMakes unsettled (Refused OutOfRange)
 
--- ---- what the refusals leave: `NothingChanges` and `ReadingAlone`
+-- ---- what the answers leave, one for each entry of the table's last column: `LeavesAsTheTableSays`
 
--- after some events, one more is answered n and leaves everything
-abbrev pub Refuses : List Row → Call → ℕ → Type 0
-Refuses xs c n =
+-- after some events, one more is answered n, which leaves x, and so it does
+abbrev pub Leaves : List Row → Call → ℕ → Leaving → Type 0
+Leaves xs c n x =
     let k = left initiator xs in
     let r = cameTo k c in
-    (answerOf r ≡ n) × ((answerOf r ≡ 2) ⊎ (answerOf r ≡ 14)) × (r ≡ quietly (k .end) (r .outcome .answer) (c .out) (k .queue))
+    (answerOf r ≡ n) × (leavesOf (r .outcome .answer) ≡ x) × Left x (k .end) (c .at) (c .given) (c .out) (k .queue) r
 
 -- eight data wait, and the clock goes back, or there is too little room
 abbrev pub AllStays : Type 0
-AllStays = Refuses untilFull (tick 127) 2 × Refuses untilFull (crampedTick 150) 14
+AllStays = Leaves untilFull (tick 127) 2 everything × Leaves untilFull (crampedTick 150) 14 everything
 
--- or leaves everything but the reading
-abbrev pub Notes : List Row → Call → ℕ → Type 0
-Notes xs c n =
-    let k = left initiator xs in
-    let r = cameTo k c in
-    (answerOf r ≡ n) × (3 ≤ answerOf r) × (answerOf r ≤ 7)
-    × (r ≡ quietly (notedEnd (k .end) (c .at)) (r .outcome .answer) (c .out) (k .queue))
+abbrev pub ReadingAlone : Type 0
+ReadingAlone =
+    Leaves untilDown (comes 198 (lifeSign 8 90 115 66)) 3 new-reading × Leaves untilFull (user 130 []) 4 new-reading
+    × Leaves untilFull (user 130 (17 ∷ [])) 5 new-reading
+    × Leaves untilFull (comes 130 (1 ∷ 2 ∷ 3 ∷ [])) 6 new-reading
+    × Leaves untilFull (comes 130 (bare 1 2 70 0 0)) 7 new-reading
 
-abbrev pub ReadingMoves : Type 0
-ReadingMoves =
-    Notes untilDown (comes 198 (lifeSign 8 90 115 66)) 3 × Notes untilFull (user 130 []) 4 × Notes untilFull (user 130 (17 ∷ [])) 5
-    × Notes untilFull (comes 130 (1 ∷ 2 ∷ 3 ∷ [])) 6
-    × Notes untilFull (comes 130 (bare 1 2 70 0 0)) 7
+-- a wrong echo; the second failure of two; a gap
+abbrev pub GoesDown : Type 0
+GoesDown = Leaves untilAsked wrongEcho 8 down × Leaves untilLate again 9 error-report × Leaves untilHeard gapped 13 delivered
+
+-- ---- what is sent reads back: `SentReadsBack`
+
+-- the oldest of eight data leaves
+abbrev pub SentIsRead : Type 0
+SentIsRead =
+    let k = left initiator untilFull in
+    let r = cameTo k (tick 129) in
+    (length (k .queue) ≡ size) × (r .outcome .front ≡ message 17) × ((m : Message) × (parse (take 17 (r .out)) ≡ WellFormed m))
 
 -- ---- an Idle end holds nothing of a connection: `FreshHoldsNothing` and `StepHoldsNothing`
 
