@@ -4,6 +4,9 @@ ghost use lib.ListN.{length};
 ghost use Rattle.wire.specs.Message.{parse};
 ghost use Rattle.inspect.specs.Row.{row, rowOf, countOf, told};
 use crate::hex::Line;
+use codec::kind::kind_of;
+use codec::reading::read_message;
+use codec::reading::train_data;
 use wire::message::Body;
 use wire::message::Header;
 use wire::message::Parsed;
@@ -13,12 +16,22 @@ pub struct Row {
     pub count: usize,
 }
 
-fn make(kind: u32, h: Header, a: u32, b: u32, count: usize) -> Row
+fn make(kind: u8, h: Header, a: u32, b: u32, count: usize) -> Row
     ensures { λ r. ⌜ r ≡ row kind h a b count ⌝ }
 {
+    let first = kind as u32;
     let number = h.number as u32;
+    let stamps = h.stamps;
     Row {
-        values: [kind, number, h.sent, h.echo, h.receipt, a, b],
+        values: [
+            first,
+            number,
+            stamps.sent.0,
+            stamps.echo.0,
+            stamps.receipt.0,
+            a,
+            b,
+        ],
         count,
     }
 }
@@ -26,14 +39,15 @@ fn make(kind: u32, h: Header, a: u32, b: u32, count: usize) -> Row
 fn row_of(h: Header, body: Body) -> Row
     ensures { λ r. ⌜ r ≡ rowOf h body ⌝ }
 {
+    let kind = kind_of(body);
     match body {
-        Body::OffsetStart => make(1, h, 0, 0, 5),
-        Body::OffsetAnsw1 => make(2, h, 0, 0, 5),
-        Body::OffsetAnsw2 => make(3, h, 0, 0, 5),
-        Body::OffsetEst { minimum, maximum } => make(4, h, minimum, maximum, 7),
-        Body::OffsetEnd => make(5, h, 0, 0, 5),
-        Body::LifeSign => make(6, h, 2, 0, 6),
-        Body::TrainData => make(6, h, 3, 0, 6),
+        Body::OffsetStart => make(kind, h, 0, 0, 5),
+        Body::OffsetAnsw1 => make(kind, h, 0, 0, 5),
+        Body::OffsetAnsw2 => make(kind, h, 0, 0, 5),
+        Body::OffsetEst { minimum, maximum } => make(kind, h, minimum.0, maximum.0, 7),
+        Body::OffsetEnd => make(kind, h, 0, 0, 5),
+        Body::LifeSign => make(kind, h, 2, 0, 6),
+        Body::TrainData => make(kind, h, 3, 0, 6),
     }
 }
 
@@ -64,14 +78,14 @@ pub fn show(l: Line, bytes: &[u8]) -> usize
 fn show_message(s: &[u8]) -> usize
     ensures { λ r. ⌜ r ≡ countOf (parse (now (s .entry))) ⌝ }
 {
-    let parsed = wire::reading::read_message(s);
+    let parsed = read_message(s);
     match parsed {
         Parsed::WellFormed(m) => {
             let h = m.header;
             let body = m.body;
             let n = show_row(row_of(h, body));
             if n == 6 {
-                show_hex(wire::reading::train_data(s));
+                show_hex(train_data(s));
             }
             io::write_all(1, b"\n");
             n

@@ -1,1 +1,1 @@
-pub mod Script
+pub mod Timed

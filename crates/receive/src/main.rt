@@ -2,16 +2,16 @@
 // timed: a called end comes Up, and then one message with its train data comes again and again with
 // the next number each time. Standard input has the peer's three messages of the start, that message,
 // and the reading of every event, so that the compiler knows none of them.
-mod script;
+mod timed;
 
+use codec::number::read_u32;
+use codec::number::write_u16;
 use judge::clock::Reading;
-use link::make::Made;
 use link::make::make;
 use link::step::step;
 use queue::BYTES;
+use rules::effect::Made;
 use rules::state::Role;
-use wire::number::read_u32;
-use wire::number::write_u16;
 
 const EVENTS: u32 = 5000004;
 
@@ -21,19 +21,19 @@ fn main() {
     let mut input = [0u8; 85];
     io::read_full(0, &mut input);
     let at = Reading(read_u32(&input, 81));
-    let Made::Fresh(fresh) = make(Role::Called, at, script::settings()) else {
+    let Made::Fresh(fresh) = make(Role::Called, at, timed::settings()) else {
         return;
     };
     let mut end = fresh;
     let mut delivered: u32 = 0;
     let mut turn: u32 = 0;
     while turn < EVENTS {
-        let start = script::start_of(turn);
-        let stop = script::stop_of(turn);
-        write_u16(&mut input, start + 1, script::number_at(turn));
+        let start = timed::start_of(turn);
+        let stop = timed::stop_of(turn);
+        write_u16(&mut input, start + 1, timed::number_at(turn));
         let outcome = step(
             end,
-            script::event_at(turn),
+            timed::event_at(turn),
             at,
             &input[start..stop],
             &mut out,
@@ -41,7 +41,7 @@ fn main() {
         );
         let front = outcome.front;
         end = outcome.end;
-        delivered += script::is_datum(front);
+        delivered += timed::is_datum(front);
         turn += 1;
     }
     io::print_decimal(1, delivered as u64);

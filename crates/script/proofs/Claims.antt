@@ -1,23 +1,70 @@
--- The claims of specs/Claims.antt: pieces print what the whole prints.
+-- The claims of specs/Claims.antt: no second outcome fits, and pieces print what the whole prints.
 use Prim.Native.Nat.{ℕ, zero, suc, _+_, _-_, _≤_, _<_}
 use native.Mathlib.Nat.{eq-zero-or-pos}
 use native.Mathlib.Omega.{arith}
 use borrow.Author.Tests.{eqb-false, le-ltb, ne-eqb}
-use mathlib.Core.Bool.{Bool, true, false, cond, not, _&&_, _||_, false≢true}
+use mathlib.Core.Bool.{Bool, true, false, cond, _||_, false≢true}
 use mathlib.Core.List.{List, [], _∷_, _++_, append-assoc, append-nil}
 use mathlib.Core.Logic.{⊎-elim}
 use mathlib.Core.Path.{_≡_, refl, ap, sym, subst, _∙_}
 use lib.Dec.{eqb, ltb}
-use lib.ListN.{length, length-append, getD, drop}
-use lib.Seq.{drop-drop, drop-append-le}
+use lib.ListN.{length, length-append, drop}
+use lib.Seq.{drop-drop}
 use Rattle.wire.proofs.Tests.{by-test}
-use Rattle.script.specs.Record.{sizeOf}
-use Rattle.script.specs.Reply.{Held, Reply, replyTo, lineRoom}
-use Rattle.script.specs.Script.{following, andThen, printedBy, printedFrom}
-use Rattle.script.specs.Play.{Piece, cut, pauses, endedBy, joined, played}
-use Rattle.script.specs.Claims.{PiecesPrint, LastPiecePrints}
-use Rattle.script.proofs.Longer.{reply-same}
-use Rattle.script.proofs.Playing.{is-whole, rest-shorter, left, played-pauses, played-ends, played-goes, both-false}
+use Rattle.script.specs.Forms.{sizeIn, following}
+use Rattle.script.specs.Lines.{lineRoom}
+use Rattle.script.specs.Reply.{Held, Reply, replyTo}
+use Rattle.script.specs.Feed.{Input}
+use Rattle.script.specs.Put.{Put}
+use Rattle.script.specs.Script.{andThen, printedBy, printedFrom}
+use Rattle.script.specs.Play.{Piece, unfinished, pauses, endedBy, joined, played}
+use Rattle.script.specs.Claims.{OneReply, OnePlay, OneFeed, PiecesPrint, LastPiecePrints}
+use Rattle.script.proofs.Whole.{is-whole, reply-same, following-same}
+use Rattle.script.proofs.Playing.{rest-shorter, left, played-pauses, played-ends, played-goes, both-false}
+
+-- ---- no second outcome fits
+
+one-text : {before w a b : List ℕ} {at m n : ℕ} → Put before at w a m → Put before at w b n → (a ≡ b) × (m ≡ n)
+one-text p q = (p .stored ∙ sym (q .stored), p .next ∙ sym (q .next))
+
+pub one-reply : OneReply
+one-reply h s text r t p q =
+    let seat = p .seat ∙ sym (q .seat) in
+    let bad = p .bad ∙ sym (q .bad) in
+    let put = one-text (p .text) (q .text) in
+    λ i. record {
+      replied = record { seat = seat i; to = put .1 i; bad = bad i };
+      text = put .0 i;
+      queue = (p .queue ∙ sym (q .queue)) i;
+      out = (p .out ∙ sym (q .out)) i;
+    }
+
+pub one-play : OnePlay
+one-play last h s text r t p q =
+    let seat = p .seat ∙ sym (q .seat) in
+    let used = p .used ∙ sym (q .used) in
+    let ended = p .ended ∙ sym (q .ended) in
+    let put = one-text (p .text) (q .text) in
+    λ i. record {
+      played = record { seat = seat i; used = used i; wrote = put .1 i; ended = ended i };
+      text = put .0 i;
+      queue = (p .queue ∙ sym (q .queue)) i;
+      out = (p .out ∙ sym (q .out)) i;
+    }
+
+pub one-feed : OneFeed
+one-feed over h i text r t p q =
+    let seat = p .seat ∙ sym (q .seat) in
+    let next = p .next ∙ sym (q .next) in
+    let input = p .input ∙ sym (q .input) in
+    let put = one-text (p .text) (q .text) in
+    λ j. record {
+      fed = record { seat = seat j; wrote = put .1 j; start = input j .start; end = input j .end; next = next j };
+      buffer = input j .buffer;
+      text = put .0 j;
+      queue = (p .queue ∙ sym (q .queue)) j;
+      out = (p .out ∙ sym (q .out)) j;
+    }
 
 -- ---- what a script prints, record by record
 
@@ -58,7 +105,7 @@ module _ (h : Held) where
 
 -- ---- a piece, and then the rest
 
-by-outcome : {P : Type 0} (b : Bool) → (b ≡ true → P) → (b ≡ false → P) → P
+pub by-outcome : {P : Type 0} (b : Bool) → (b ≡ true → P) → (b ≡ false → P) → P
 by-outcome true t f = t refl
 by-outcome false t f = f refl
 
@@ -66,18 +113,18 @@ module _ (last : Bool) (more : List ℕ) (complete : last ≡ true → more ≡ 
   -- the test that lets a turn go on
   goes-some : (s : List ℕ) (room : ℕ) → pauses last s room ≡ false → 0 < length s
   goes-some s room goes =
-      let none = eqb-false (length s) 0 (both-false (eqb (length s) 0) (ltb room lineRoom || (not last && cut s)) goes .0) in
+      let none = eqb-false (length s) 0 (both-false (eqb (length s) 0) (ltb room lineRoom || unfinished last s) goes .0) in
       ⊎-elim (λ empty. absurd (none empty)) (λ some. some) (eq-zero-or-pos (length s))
 
-  goes-whole : (s : List ℕ) (room : ℕ) → pauses last s room ≡ false → not last && cut s ≡ false
+  goes-whole : (s : List ℕ) (room : ℕ) → pauses last s room ≡ false → unfinished last s ≡ false
   goes-whole s room goes =
-      both-false (ltb room lineRoom) (not last && cut s)
-      (both-false (eqb (length s) 0) (ltb room lineRoom || (not last && cut s)) goes .1) .1
+      both-false (ltb room lineRoom) (unfinished last s)
+      (both-false (eqb (length s) 0) (ltb room lineRoom || unfinished last s) goes .1) .1
 
   -- more bytes do not change the reply: either there are none, or the record is whole
-  replies-same : (b : Bool) → last ≡ b → (h : Held) (s : List ℕ) → 0 < length s → not b && cut s ≡ false → replyTo h (s ++ more) ≡ replyTo h s
+  replies-same : (b : Bool) → last ≡ b → (h : Held) (s : List ℕ) → 0 < length s → unfinished b s ≡ false → replyTo h (s ++ more) ≡ replyTo h s
   replies-same true is h s some whole = ap (λ (l : List ℕ). replyTo h (s ++ l)) (complete is) ∙ ap (replyTo h) (append-nil s)
-  replies-same false is h s some whole = reply-same h s more some whole
+  replies-same false is h s some whole = reply-same s more some h whole
 
   abbrev Prints : Held → List ℕ → Piece → Type 0
   Prints h s p = printedFrom h (s ++ more) ≡ p .text ++ cond (p .ended) [] (printedFrom (p .held) (drop (p .used) s ++ more))
@@ -96,16 +143,10 @@ module _ (last : Bool) (more : List ℕ) (complete : last ≡ true → more ≡ 
         ∙ sym (append-nil (replyTo h s .text))
 
     rest-same : replyTo h s .bad ≡ false → following (s ++ more) ≡ following s ++ more
-    rest-same good =
-        ap (λ (k : ℕ). drop (sizeOf k) (s ++ more)) (first-same s (goes-some s room goes))
-        ∙ drop-append-le (sizeOf (getD s 0 0)) s more (is-whole h s good)
-      where
-        first-same : (l : List ℕ) → 0 < length l → getD (l ++ more) 0 0 ≡ getD l 0 0
-        first-same [] some = absurd (omega arith)
-        first-same (x ∷ l) some = refl
+    rest-same good = following-same s more (goes-some s room goes) (is-whole h s good)
 
     goes-prints : (p : Piece) → replyTo h s .bad ≡ false → Prints (replyTo h s .held) (following s) p
-        → Prints h s (joined (sizeOf (getD s 0 0)) (replyTo h s) p)
+        → Prints h s (joined (sizeIn s) (replyTo h s) p)
     goes-prints p good rest =
         let text = replyTo h s .text in
         let after : List ℕ → List ℕ = λ l. cond (p .ended) [] (printedFrom (p .held) (l ++ more)) in
@@ -113,8 +154,8 @@ module _ (last : Bool) (more : List ℕ) (complete : last ≡ true → more ≡ 
         ∙ ap (λ (r : Reply). r .text ++ printedFrom (r .held) (following (s ++ more))) same
         ∙ ap (λ (l : List ℕ). text ++ printedFrom (replyTo h s .held) l) (rest-same good)
         ∙ ap (λ (l : List ℕ). text ++ l) rest
-        ∙ ap (λ (l : List ℕ). text ++ (p .text ++ after l)) (drop-drop (p .used) (sizeOf (getD s 0 0)) s)
-        ∙ sym (append-assoc text (p .text) (after (drop (sizeOf (getD s 0 0) + p .used) s)))
+        ∙ ap (λ (l : List ℕ). text ++ (p .text ++ after l)) (drop-drop (p .used) (sizeIn s) s)
+        ∙ sym (append-assoc text (p .text) (after (drop (sizeIn s + p .used) s)))
 
   one-turn : (h : Held) (s : List ℕ) (room : ℕ)
       → (pauses last s room ≡ false → replyTo h s .bad ≡ false → Prints (replyTo h s .held) (following s) (left last h s room))
@@ -139,7 +180,7 @@ pieces-print last h s more room complete = prints last more complete (length s) 
 -- ---- the last piece
 
 -- the last piece stops at a bad record, for want of room, or where nothing is left
-abbrev Stops : List ℕ → ℕ → Piece → Type 0
+abbrev pub Stops : List ℕ → ℕ → Piece → Type 0
 Stops s room p = p .ended ≡ false → lineRoom ≤ room - length (p .text) → drop (p .used) s ≡ []
 
 neither : (a b : Bool) → a ≡ false → b ≡ false → a || (b || false) ≡ false
@@ -161,17 +202,17 @@ last-turn h s room later =
         absurd (false≢true (sym (neither (eqb (suc (length s)) 0) (ltb room lineRoom) (not-empty (suc (length s)) (omega arith)) (le-ltb room lineRoom (omega (arith, space)))) ∙ rests))
 
     further : Stops (following s) (room - length (replyTo h s .text)) (left true h s room)
-        → Stops s room (joined (sizeOf (getD s 0 0)) (replyTo h s) (left true h s room))
+        → Stops s room (joined (sizeIn s) (replyTo h s) (left true h s room))
     further stops going space =
         let p = left true h s room in
-        sym (drop-drop (p .used) (sizeOf (getD s 0 0)) s)
+        sym (drop-drop (p .used) (sizeIn s) s)
         ∙ stops going (omega (arith, space, length-append (replyTo h s .text) (p .text)))
 
-stops : (n : ℕ) (h : Held) (s : List ℕ) (room : ℕ) → length s ≤ n → Stops s room (played true h s room)
-stops zero h s room fits = last-turn h s room (λ goes good. absurd (omega (arith, goes-some true [] (λ is. refl) s room goes, fits)))
-stops (suc n) h s room fits =
+pub last-stops : (n : ℕ) (h : Held) (s : List ℕ) (room : ℕ) → length s ≤ n → Stops s room (played true h s room)
+last-stops zero h s room fits = last-turn h s room (λ goes good. absurd (omega (arith, goes-some true [] (λ is. refl) s room goes, fits)))
+last-stops (suc n) h s room fits =
     last-turn h s room
-    (λ goes good. stops n (replyTo h s .held) (following s) (room - length (replyTo h s .text)) (rest-shorter h s n good fits))
+    (λ goes good. last-stops n (replyTo h s .held) (following s) (room - length (replyTo h s .text)) (rest-shorter h s n good fits))
 
 then-nothing : (h : Held) (l : List ℕ) → l ++ printedFrom h [] ≡ l
 unfolding printedBy
@@ -187,4 +228,4 @@ last-piece-prints h s room space =
         ≡ played true h s room .text
     rest true is = rw is (append-nil (played true h s room .text))
     rest false is =
-        rw is (ap (λ (l : List ℕ). played true h s room .text ++ printedFrom (played true h s room .held) (l ++ [])) (stops (length s) h s room (omega arith) is space) ∙ then-nothing (played true h s room .held) (played true h s room .text))
+        rw is (ap (λ (l : List ℕ). played true h s room .text ++ printedFrom (played true h s room .held) (l ++ [])) (last-stops (length s) h s room (omega arith) is space) ∙ then-nothing (played true h s room .held) (played true h s room .text))

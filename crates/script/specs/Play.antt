@@ -3,10 +3,10 @@ use Prim.Native.Nat.{ℕ, zero, suc, _+_, _-_}
 use mathlib.Core.Bool.{Bool, true, false, cond, not, _&&_, _||_}
 use mathlib.Core.List.{List, [], _++_}
 use lib.Dec.{eqb, ltb}
-use lib.ListN.{length, getD}
-use Rattle.script.specs.Record.{sizeOf}
-use Rattle.script.specs.Reply.{Held, Reply, replyTo, lineRoom}
-use Rattle.script.specs.Script.{following}
+use lib.ListN.{length}
+use Rattle.script.specs.Forms.{sizeIn, cut, following}
+use Rattle.script.specs.Lines.{lineRoom}
+use Rattle.script.specs.Reply.{Held, Reply, replyTo}
 
 pub record Piece : Type 0 where
   pub held : Held
@@ -16,13 +16,13 @@ pub record Piece : Type 0 where
   -- a bad record has ended the script
   pub ended : Bool
 
--- the record at the front is cut
-abbrev pub cut : List ℕ → Bool
-cut s = ltb (length s) (sizeOf (getD s 0 0))
+-- the rest of a record is still to come; after the last piece nothing comes
+abbrev pub unfinished : Bool → List ℕ → Bool
+unfinished last s = not last && cut s
 
--- nothing is left, or a line may not fit, or the rest of a record is still to come: the last piece has all there is
+-- nothing is left, or a line may not fit, or the record is unfinished
 abbrev pub pauses : Bool → List ℕ → ℕ → Bool
-pauses last s room = eqb (length s) 0 || (ltb room lineRoom || (not last && cut s))
+pauses last s room = eqb (length s) 0 || (ltb room lineRoom || unfinished last s)
 
 abbrev pub unplayed : Held → Piece
 unplayed h = record { held = h; text = []; used = 0; ended = false }
@@ -38,7 +38,7 @@ joined n r rest = record { held = rest .held; text = r .text ++ rest .text; used
 abbrev pub turn : Bool → Held → List ℕ → ℕ → Piece → Piece
 turn last h s room rest =
     cond (pauses last s room) (unplayed h)
-    (cond (replyTo h s .bad) (endedBy (replyTo h s)) (joined (sizeOf (getD s 0 0)) (replyTo h s) rest))
+    (cond (replyTo h s .bad) (endedBy (replyTo h s)) (joined (sizeIn s) (replyTo h s) rest))
 
 -- so many records at most
 unfoldable pub playedBy : ℕ → Bool → Held → List ℕ → ℕ → Piece

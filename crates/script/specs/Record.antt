@@ -1,35 +1,19 @@
--- The records of a script: one byte of kind, then a body whose length the kind fixes.
+-- What the bytes of a whole record say, its kind at place 0. The kinds are told apart in Forms.antt.
 use Prim.Native.Nat.{ℕ, _+_}
 use mathlib.Core.Bool.{cond}
-use mathlib.Core.List.{List, [], _∷_}
-use lib.Dec.{leb, ltb, eqb}
-use lib.ListN.{length, getD, take, drop}
-use Rattle.judge.specs.declared.clock.Reading.{Reading}
+use mathlib.Core.List.{List}
+use lib.Dec.{leb, eqb}
+use lib.ListN.{getD, take, drop}
 use Rattle.wire.specs.Bytes.{numberAt}
-use Rattle.wire.specs.Message.{longest}
+use Rattle.wire.specs.Message.{readingAt}
 use Rattle.rules.specs.declared.act.Event.{Event}
-use Rattle.rules.specs.declared.act.Event.the-variants.{Tick, Connect, Confirm, Disconnect, Data, Message}
 use Rattle.rules.specs.declared.settings.Settings.{Settings}
 use Rattle.rules.specs.declared.state.Role.the-variants.{Initiator, Called}
+use Rattle.script.specs.declared.record.Span.{Span}
 use Rattle.script.specs.declared.record.Record.{Record}
 use Rattle.script.specs.declared.record.Record.the-variants.{Make, Happen, Bad}
 
--- the field of user data, and that of a message
-abbrev pub dataField : ℕ
-dataField = longest
-
-abbrev pub messageField : ℕ
-messageField = 128
-
--- the length of a whole record by its kind, 0 for a kind that there is not
-abbrev pub sizes : List ℕ
-sizes = 0 ∷ 33 ∷ 5 ∷ 5 ∷ 5 ∷ 5 ∷ (6 + dataField) ∷ (6 + messageField) ∷ []
-
-abbrev pub sizeOf : ℕ → ℕ
-sizeOf kind = getD sizes kind 0
-
-abbrev pub readingAt : List ℕ → ℕ → Reading
-readingAt s i = record { 0 = numberAt 4 s i }
+-- ---- a make
 
 -- role, reading, A, W, N, E, R, S, T, C in 1, 4, 4, 4, 2, 1, 4, 4, 4, 4 bytes
 abbrev pub settingsIn : List ℕ → Settings
@@ -45,28 +29,26 @@ settingsIn s =
       retry = numberAt 4 s 29;
     }
 
+-- a role over 1 is bad
 abbrev pub makeIn : List ℕ → Record
 makeIn s =
     cond (eqb (getD s 1 0) 0) (Make Initiator (readingAt s 2) (settingsIn s))
     (cond (eqb (getD s 1 0) 1) (Make Called (readingAt s 2) (settingsIn s)) Bad)
 
--- an event with so many bytes of a field, where the length byte does not exceed it
-abbrev pub lengthyIn : Event → ℕ → List ℕ → Record
-lengthyIn event field s = cond (leb (getD s 5 0) field) (Happen event (readingAt s 1) (getD s 5 0)) Bad
+-- ---- events
 
--- the kinds from 0 on, once the record is whole
-abbrev pub kindsIn : List ℕ → List Record
-kindsIn s =
-    Bad ∷ makeIn s ∷ Happen Tick (readingAt s 1) 0 ∷ Happen Connect (readingAt s 1) 0 ∷ Happen Confirm (readingAt s 1) 0
-    ∷ Happen Disconnect (readingAt s 1) 0 ∷ lengthyIn Data dataField s ∷ lengthyIn Message messageField s ∷ []
+-- a reading alone
+abbrev pub plainIn : Event → List ℕ → Record
+plainIn event s = Happen event (readingAt s 1) (record { from = 0; count = 0 })
 
-abbrev pub kindIn : List ℕ → Record
-kindIn s = getD (kindsIn s) (getD s 0 0) Bad
+-- a reading, a length of so many bytes, and a field whose first bytes came with the event: so many as the length says, which must
+-- not exceed the field
+abbrev pub lengthyIn : Event → ℕ → ℕ → List ℕ → Record
+lengthyIn event width field s =
+    cond (leb (numberAt width s 5) field)
+    (Happen event (readingAt s 1) (record { from = 5 + width; count = numberAt width s 5 }))
+    Bad
 
--- the record at the front of s; one that is cut is bad
-unfoldable pub recordIn : List ℕ → Record
-recordIn s = cond (ltb (length s) (sizeOf (getD s 0 0))) Bad (kindIn s)
-
--- the bytes that come with an event, n of them
-abbrev pub givenIn : List ℕ → ℕ → List ℕ
-givenIn s n = take n (drop 6 s)
+-- the bytes that came with an event
+abbrev pub givenIn : List ℕ → Span → List ℕ
+givenIn s part = take (part .count) (drop (part .from) s)

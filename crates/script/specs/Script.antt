@@ -3,16 +3,12 @@ use Prim.Native.Nat.{ℕ, zero, suc}
 use mathlib.Core.Bool.{cond}
 use mathlib.Core.List.{List, [], _++_}
 use lib.Dec.{eqb}
-use lib.ListN.{length, getD, drop, replicate}
+use lib.ListN.{length, replicate}
 use Rattle.queue.specs.Ring.{size}
-use Rattle.rules.specs.Rules.{leastRoom}
-use Rattle.script.specs.Record.{sizeOf}
+use Rattle.rules.specs.Decide.{leastRoom}
+use Rattle.script.specs.Forms.{following}
 use Rattle.script.specs.Reply.{Held, Reply, replyTo}
-use Rattle.script.specs.declared.desk.Desk.the-variants.{Empty}
-
--- what follows the record at the front of s
-abbrev pub following : List ℕ → List ℕ
-following s = drop (sizeOf (getD s 0 0)) s
+use Rattle.script.specs.declared.seat.Seat.the-variants.{Empty}
 
 -- a reply's line, and then the rest; a bad record ends the script
 abbrev pub andThen : Reply → (Held → List ℕ) → List ℕ
@@ -30,7 +26,7 @@ printedFrom h s = printedBy (length s) h s
 
 -- no end yet, a queue of zeros, and an output of the least room for every event
 abbrev pub atFirst : Held
-atFirst = record { desk = Empty; queue = replicate size 0; out = replicate leastRoom 0 }
+atFirst = record { seat = Empty; queue = replicate size 0; out = replicate leastRoom 0 }
 
 -- from bytes to bytes
 abbrev pub printed : List ℕ → List ℕ

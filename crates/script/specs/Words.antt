@@ -1,7 +1,7 @@
--- The words of a line, as bytes of ASCII.
+-- The words and digits of a line, as bytes of ASCII.
 use Prim.Native.Nat.{ℕ, _+_, _/_, _%_}
-use mathlib.Core.Bool.{Bool, cond}
-use mathlib.Core.List.{List, [], _∷_}
+use mathlib.Core.Bool.{cond}
+use mathlib.Core.List.{List, [], _∷_, _++_}
 use lib.Dec.{ltb}
 
 -- a digit below 16, in lower case
@@ -48,6 +48,6 @@ lineEnd = 10 ∷ []
 abbrev pub badLine : List ℕ
 badLine = 98 ∷ 97 ∷ 100 ∷ 32 ∷ 114 ∷ 101 ∷ 99 ∷ 111 ∷ 114 ∷ 100 ∷ 10 ∷ []
 
--- a word where a report is made
-abbrev pub wordIf : Bool → List ℕ → List ℕ
-wordIf said word = cond said word []
+-- a number, words, and a line end
+abbrev pub textLine : ℕ → List ℕ → List ℕ
+textLine number words = decimalOf number ++ words ++ lineEnd

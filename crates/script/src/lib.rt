@@ -1,8 +1,7 @@
-// The Sunday script: records in, lines out.
-pub mod desk;
-mod line;
-mod part;
-pub mod play;
+// The law of the Sunday script: what its records are, and the line that answers each.
+//
+// Here are the types alone. The definitions in specs/ say what a script prints (`Script.printed`) and what a
+// piece of one does (`Play.played`); the crate `player` prints it.
 pub mod record;
 pub mod reply;
-mod text;
+pub mod seat;

@@ -7,11 +7,11 @@ use Rattle.sunday.proofs.main.Statement.{statement}
 use Rattle.sunday.proofs.main.Tie as tie
 
 abbrev Inv-loop : tie.InvT-loop
-Inv-loop input₀ text₀ out₀ q₀ desk₀ start₀ end₀ over₀ turns₀ input text out q desk start end over turns =
-    (start ≤ end) × (end ≤ 65536) × (length input ≡ 65536) × (length text ≡ 65536) × (turns ≤ 2 ^ 64 - 1)
+Inv-loop input₀ text₀ out₀ q₀ seat₀ start₀ end₀ over₀ turns₀ input text out q seat start end over turns =
+    (end ≤ 65536) × (length input ≡ 65536) × (length text ≡ 65536) × (turns ≤ 2 ^ 64 - 1)
 
 abbrev μ-loop : tie.MeasureT-loop
-μ-loop input₀ text₀ out₀ q₀ desk₀ start₀ end₀ over₀ turns₀ input text out q desk start end over turns =
+μ-loop input₀ text₀ out₀ q₀ seat₀ start₀ end₀ over₀ turns₀ input text out q seat start end over turns =
     2 ^ 64 - 1 - turns
 
 large-buffer-requires : tie.Need-large-buffer-requires Inv-loop μ-loop
@@ -26,23 +26,14 @@ loop-holds c = search needs
 add-turns : tie.Need-add-turns Inv-loop μ-loop
 add-turns c = search needs
 
-sub-play : tie.Need-sub-play Inv-loop μ-loop
-sub-play c = search needs
+slice-aggregate-feed : tie.Need-slice-aggregate-feed Inv-loop μ-loop
+slice-aggregate-feed c = search needs
 
-part-play-start : tie.Need-part-play-start Inv-loop μ-loop
-part-play-start c = search needs
+slice-aggregate-feed-2 : tie.Need-slice-aggregate-feed-2 Inv-loop μ-loop
+slice-aggregate-feed-2 c = search needs
 
-part-play-end : tie.Need-part-play-end Inv-loop μ-loop
-part-play-end c = search needs
-
-slice-aggregate-play : tie.Need-slice-aggregate-play Inv-loop μ-loop
-slice-aggregate-play c = search needs
-
-play-requires : tie.Need-play-requires Inv-loop μ-loop
-play-requires c κs = search needs
-
-add-start : tie.Need-add-start Inv-loop μ-loop
-add-start c = search needs
+feed-requires : tie.Need-feed-requires Inv-loop μ-loop
+feed-requires c κs = search needs
 
 sub-write-all : tie.Need-sub-write-all Inv-loop μ-loop
 sub-write-all c = search needs
@@ -59,17 +50,23 @@ write-all-requires c κs = search needs
 returns : tie.Need-returns Inv-loop μ-loop
 returns c = search needs
 
+enum-told : tie.Need-enum-told Inv-loop μ-loop
+enum-told c = search needs
+
+loop-less : tie.Need-loop-less Inv-loop μ-loop
+loop-less c = search needs
+
+loop-again : tie.Need-loop-again Inv-loop μ-loop
+loop-again c = search needs
+
+enum-told-2 : tie.Need-enum-told-2 Inv-loop μ-loop
+enum-told-2 c = search needs
+
 returns-2 : tie.Need-returns-2 Inv-loop μ-loop
 returns-2 c = search needs
 
-returns-3 : tie.Need-returns-3 Inv-loop μ-loop
-returns-3 c = search needs
-
-slice-aggregate-keep : tie.Need-slice-aggregate-keep Inv-loop μ-loop
-slice-aggregate-keep c = search needs
-
-keep-requires : tie.Need-keep-requires Inv-loop μ-loop
-keep-requires c κs = search needs
+enum-told-3 : tie.Need-enum-told-3 Inv-loop μ-loop
+enum-told-3 c = search needs
 
 slice-aggregate-read-more : tie.Need-slice-aggregate-read-more Inv-loop μ-loop
 slice-aggregate-read-more c = search needs
@@ -80,20 +77,14 @@ read-more-requires c κs = search needs
 add-end : tie.Need-add-end Inv-loop μ-loop
 add-end c = search needs
 
-loop-less : tie.Need-loop-less Inv-loop μ-loop
-loop-less c = search needs
-
-loop-again : tie.Need-loop-again Inv-loop μ-loop
-loop-again c = search needs
-
 loop-less-2 : tie.Need-loop-less-2 Inv-loop μ-loop
 loop-less-2 c = search needs
 
 loop-again-2 : tie.Need-loop-again-2 Inv-loop μ-loop
 loop-again-2 c = search needs
 
-returns-4 : tie.Need-returns-4 Inv-loop μ-loop
-returns-4 c = search needs
+returns-3 : tie.Need-returns-3 Inv-loop μ-loop
+returns-3 c = search needs
 
 pub main-spec : {M : Type 1} → statement M
 main-spec =
@@ -105,26 +96,23 @@ main-spec =
     large-buffer-requires-2
     loop-holds
     add-turns
-    sub-play
-    part-play-start
-    part-play-end
-    slice-aggregate-play
-    play-requires
-    add-start
+    slice-aggregate-feed
+    slice-aggregate-feed-2
+    feed-requires
     sub-write-all
     part-write-all-start
     part-write-all-end
     write-all-requires
     returns
+    enum-told
+    loop-less
+    loop-again
+    enum-told-2
     returns-2
-    returns-3
-    slice-aggregate-keep
-    keep-requires
+    enum-told-3
     slice-aggregate-read-more
     read-more-requires
     add-end
-    loop-less
-    loop-again
     loop-less-2
     loop-again-2
-    returns-4)
+    returns-3)

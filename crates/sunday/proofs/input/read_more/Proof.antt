@@ -1,10 +1,15 @@
 -- `sunday::input::read_more` meets its contract.
+use native.Mathlib.Omega.{arith}
+use mathlib.Core.Path.{refl}
 use lib.ListN.{take}
 use lib.Seq.{take-at, length-take-le}
 use denote.Ref.{now}
 use borrow.Author.Needs.{needs}
 use Rattle.sunday.proofs.input.read_more.Statement.{statement}
 use Rattle.sunday.proofs.input.read_more.Tie as tie
+
+returns : tie.Need-returns
+returns c = (omega arith, refl)
 
 sub-read : tie.Need-sub-read
 sub-read c = search needs
@@ -33,13 +38,14 @@ count-requires c κs = search needs
 same-length : tie.Need-same-length
 same-length c = search needs
 
-returns : tie.Need-returns
-returns c = let a = c .before .before .before .before .before .before .before .before .args in (search needs, take-at (take (a .end) (now (a .buffer))) _ (a .end) (length-take-le (a .end) (now (a .buffer)) (search needs)))
+returns-2 : tie.Need-returns-2
+returns-2 c = let a = c .before .before .before .before .before .before .before .before .before .args in (search needs, take-at (take (a .end) (now (a .buffer))) _ (a .end) (length-take-le (a .end) (now (a .buffer)) (search needs)))
 
 pub read-more-spec : {M : Type 1} → statement M
 read-more-spec =
     tie.close
     (tie.spec
+    returns
     sub-read
     part-read-start
     part-read-end
@@ -49,4 +55,4 @@ read-more-spec =
     part-count-end
     count-requires
     same-length
-    returns)
+    returns-2)

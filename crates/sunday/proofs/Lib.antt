@@ -1,2 +1,0 @@
--- Proofs that belong to no one function.
-pub mod Moving
