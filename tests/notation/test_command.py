@@ -7,6 +7,7 @@ import tempfile
 import unittest
 
 import support
+from notation.script import Script
 
 TEXT = f"{support.MAKE} -> 0\ntick 100 -> 0 ask\n"
 LINES = b"0\n0 ask\n"
@@ -18,7 +19,7 @@ class Commands(unittest.TestCase):
         self.addCleanup(folder.cleanup)
         self.folder = pathlib.Path(folder.name)
         self.put("text", TEXT.encode())
-        self.put("stdin", self.scenes("bytes", "text").stdout)
+        self.put("stdin", Script(TEXT, "text").stdin())
         self.put("stdout", LINES)
 
     def put(self, name, data):
@@ -33,6 +34,7 @@ class Commands(unittest.TestCase):
 
     def test_bytes_and_lines(self):
         self.assertEqual(len((self.folder / "stdin").read_bytes()), 38)
+        self.expect(self.scenes("bytes", "text"), 0, (self.folder / "stdin").read_bytes())
         self.expect(self.scenes("lines", "text"), 0, LINES)
 
     def test_standard_input(self):
@@ -42,6 +44,13 @@ class Commands(unittest.TestCase):
         laid_out = f"{support.MAKE}\n{'-> 0':>36}\n{'tick 100':32}-> 0 ask\n"
         self.expect(self.scenes("text", "stdin", "stdout"), 0, laid_out.encode())
         self.expect(self.scenes("text", "stdin"), 0, f"{support.MAKE}\ntick 100\n".encode())
+
+    def test_text_without_filler(self):
+        self.put("odd", bytes.fromhex("060000000501aa") + bytes(range(99)))
+        full = self.scenes("text", "odd").stdout
+        self.assertTrue(full.startswith(b"data 5 aa filler 000102"))
+        self.expect(self.scenes("bytes", "--draft", "-", given=full), 0, (self.folder / "odd").read_bytes())
+        self.expect(self.scenes("text", "--plain", "odd"), 0, b"data 5 aa\n")
 
     def test_draft(self):
         self.put("draft", TEXT.replace(" -> 0 ask", "").encode())
@@ -68,15 +77,21 @@ class Commands(unittest.TestCase):
 
     def test_files_that_cannot_be_read(self):
         self.expect(self.scenes("bytes", "none"), 2, b"", b"none: No such file or directory\n")
-        self.put("odd", b"\xff\xfe")
-        self.expect(self.scenes("bytes", "odd"), 2, b"", b"odd: this is no text\n")
         self.expect(self.scenes("fill", "text", "-", given=b"0\n0 ask"), 2, b"",
-                    b"-: the last line has no end\n")
+                    b"-: the last line has no end, so a part of it may be missing\n")
 
-    def test_usage(self):
-        self.assertEqual(self.scenes().returncode, 2)
-        self.assertEqual(self.scenes("sing", "text").returncode, 2)
-        self.assertIn(b"scenes check TEXT STDIN STDOUT", self.scenes("--help").stdout)
+    def test_help(self):
+        self.assertIn(b"scenes check TEXT RECORDS LINES", self.scenes("--help").stdout)
+
+    def test_records_can_be_played_too(self):
+        done = self.scenes("play", "--why", "stdin", "stdout")
+        self.assertEqual(done.returncode, 0)
+        self.assertIn(b"tick 100                      -> 0 ask                a fresh initiator asks at once\n",
+                      done.stdout)
+
+    def test_kinds(self):
+        for name, kind in (("text", b"text\n"), ("stdin", b"records\n"), ("stdout", b"lines\n")):
+            self.expect(self.scenes("kind", name), 0, kind)
 
 
 if __name__ == "__main__":

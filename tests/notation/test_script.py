@@ -4,7 +4,8 @@ import random
 import unittest
 
 import support
-from notation.compare import filled, first_difference, played, text_of
+from notation.compare import filled, first_difference, text_of
+from notation.play import played
 from notation.fields import Trouble
 from notation.script import Script
 
@@ -52,78 +53,12 @@ class Texts(unittest.TestCase):
 
 
 class Troubles(unittest.TestCase):
-    """Each error names the file, the line and what is wrong."""
+    """Each error names the file, the line and what is wrong. Those of single lines are in test_slips."""
 
     def refused(self, text, message):
         with self.assertRaises(Trouble, msg=text) as caught:
             Script(text, "t")
         self.assertEqual(str(caught.exception), message)
-
-    def records_refused(self, *cases):
-        for line, message in cases:
-            self.refused(f"# first\n{line} -> 0\n", f"t:2: {message}")
-
-    def test_plain_records(self):
-        self.records_refused(
-            ("tock 5", "'tock' is no record: there are make, tick, connect, confirm, disconnect, data, "
-                       "message, record"),
-            ("tick", "the number for 'reading' is missing at the end"),
-            ("tick x", "reading: 'x' is no number"),
-            ("tick 2^32", "reading: 2^32 does not fit: the field has 4 bytes, so 0 to 4294967295"),
-            ("tick 5 6", "'6' is not understood here"),
-            ("make", "the role is missing at the end"),
-            ("make caller at 5", "'caller' is no role: there are initiator and called"),
-            ("make called age 5", "the word 'at' is missing before 'age'"),
-            (support.MAKE.replace("jump 4", "jump 65536"),
-             "jump: 65536 does not fit: the field has 2 bytes, so 0 to 65535"),
-            (support.MAKE.replace("errors 2", "errors 256"),
-             "errors: 256 does not fit: the field has 1 bytes, so 0 to 255"),
-            (support.MAKE.replace("spread 20 ", ""), "the word 'spread' is missing before 'jump'"),
-            (support.MAKE.replace(" retry 1000", ""), "the word 'retry' is missing at the end"),
-            ("record", "a record must be hex, two digits a byte, or 'empty', and nothing is there"),
-        )
-
-    def test_user_data(self):
-        self.records_refused(
-            ("data 5", "user data must be hex, two digits a byte, or 'empty', and nothing is there"),
-            ("data 5 abc", "user data must be hex, two digits a byte, or 'empty', not 'abc'"),
-            ("data 5 aa*101", "101 bytes do not fit: the record has room for 100"),
-            ("data 5 aa*9999", "aa*9999: a run has at most 1000 bytes"),
-            ("data 5 aa filler", "filler must be hex, two digits a byte, or 'empty', and nothing is there"),
-            ("data 5 aa filler aabb", "filler is one byte, not 2"),
-        )
-
-    def test_messages(self):
-        stamps = "sent 1 echo 2 receipt 3"
-        self.records_refused(
-            ("message 5", "the kind of the message is missing at the end"),
-            ("message 5 begin", "'begin' is no kind of message: there are start, answ1, answ2, est, end, "
-                                "life-sign, train, and bytes"),
-            ("message 5 start sent 1", "the word 'number' is missing before 'sent'"),
-            (f"message 5 start number 65,536 {stamps}",
-             "number: 65,536 does not fit: the field has 2 bytes, so 0 to 65535"),
-            (f"message 5 start number 1 {stamps} data aa", "'data' is not understood here"),
-            (f"message 5 est number 1 {stamps}", "the word 'minimum' is missing at the end"),
-            (f"message 5 est number 1 {stamps} minimum -2147483649 maximum 0",
-             "minimum: -2147483649 does not fit: the least is -2147483648"),
-            (f"message 5 train number 1 {stamps}", "the word 'data' is missing at the end"),
-            (f"message 5 train number 1 {stamps} data aa*113",
-             "129 bytes do not fit: the record has room for 128"),
-            ("message 5 bytes",
-             "the message must be hex, two digits a byte, or 'empty', and nothing is there"),
-        )
-
-    def test_answers(self):
-        for answer, message in (
-            ("", "the number of the answer is missing at the end"),
-            ("15", "'15' is no answer: there are 0 to 14, 'bad record' and 'nothing'"),
-            ("ask", "'ask' is no answer: there are 0 to 14, 'bad record' and 'nothing'"),
-            ("0 asks", "'asks' is no output: there are ask, accept, up, error, release, down, send, data"),
-            ("0 data empty", "'data' needs at least one byte"),
-            ("0 send bytes empty", "'send' needs at least one byte"),
-            ("0 send est", "the word 'number' is missing at the end"),
-        ):
-            self.refused(f"tick 5 -> {answer}\n", f"t:1: {message}")
 
     def test_missing_and_lone_answers(self):
         self.refused("tick 5 -> 3\ntick 6\n",

@@ -4,7 +4,7 @@ import random
 import unittest
 
 import support
-from notation.answers import answer_in_words, meaning, read_answer
+from notation.answers import answer_in_words, meaning, read_answer, shown
 from notation.fields import (
     Trouble, Words, bytes_in_words, number_in_words, offset_in_words, read_number)
 from notation.records import fault, read_record, record_in_words, split_records
@@ -36,18 +36,20 @@ class Numbers(unittest.TestCase):
     def test_refused(self):
         for word, size, signed, message in (
             ("x", 4, False, "'x' is no number"),
-            ("-1", 4, False, "'-1' is no number"),
-            ("1.5", 4, False, "'1.5' is no number"),
             (",1", 4, False, "',1' is no number"),
-            ("--1", 4, True, "'--1' is no number"),
-            ("65536", 2, False, "65536 does not fit: the field has 2 bytes, so 0 to 65535"),
-            ("2^32", 4, False, "2^32 does not fit: the field has 4 bytes, so 0 to 4294967295"),
-            ("2^0-2", 4, False, "2^0-2 does not fit: the field has 4 bytes, so 0 to 4294967295"),
-            ("-2147483649", 4, True, "-2147483649 does not fit: the least is -2147483648"),
+            ("--1", 4, True, "'--1' is no number: one minus sign is enough"),
+            ("65536", 2, False, "'65536' does not fit: the field has 2 bytes, so 0 to 65535"),
+            ("256", 1, False, "'256' does not fit: the field has 1 byte, so 0 to 255"),
+            ("2^32", 4, False, "'2^32' does not fit: the field has 4 bytes, so 0 to 4294967295"),
+            ("2^0-2", 4, False, "'2^0-2' does not fit: the field has 4 bytes, so 0 to 4294967295"),
+            ("-2147483649", 4, True, "'-2147483649' does not fit: the least is -2147483648"),
         ):
             with self.assertRaises(Trouble, msg=word) as caught:
                 read_number(word, size, signed)
             self.assertEqual(str(caught.exception), message)
+
+    def test_many_zeros_in_front_are_no_harm(self):
+        self.assertEqual(read_number("0" * 5000 + "7", 4), 7)
 
 
 class Bytes(unittest.TestCase):
@@ -109,10 +111,16 @@ class Records(unittest.TestCase):
             record = read_record(f"message 100 {words}")
             self.assertTrue(record_in_words(record).startswith("message 100 bytes 060007"))
 
-    def test_filler_of_many_bytes_is_written_as_a_record(self):
+    def test_filler_of_many_bytes(self):
         record = read_record("data 100 c0ffee")[:-1] + b"\x01"
-        self.assertEqual(record_in_words(record), "record 060000006403c0ffee 00*96 01")
+        self.assertEqual(record_in_words(record), "data 100 c0ffee filler 00*96 01")
+        self.assertEqual(record_in_words(record, filler=False), "data 100 c0ffee")
         self.assertEqual(read_record(record_in_words(record)), record)
+
+    def test_only_a_bad_record_is_written_as_bytes(self):
+        dice = random.Random(6)
+        for _ in range(300):
+            self.assertFalse(record_in_words(support.record(dice)).startswith("record"))
 
     def test_random_records_read_back(self):
         dice = random.Random(2)
@@ -169,6 +177,10 @@ class Answers(unittest.TestCase):
                      "0 send AB", "0 data", "0 data xy", "0 ask\r", "bad record "):
             with self.assertRaises(Trouble, msg=line):
                 answer_in_words(line)
+
+    def test_shown_to_a_reader(self):
+        for line, words in (("0 data aaaaaaaaaa", "0 data aa*5"), ("oops", "oops"), ("\x1b[2J0", r"\x1b[2J0")):
+            self.assertEqual(shown(line), words)
 
     def test_meanings(self):
         self.assertEqual(meaning("9 error"), "old")

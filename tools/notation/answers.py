@@ -1,20 +1,39 @@
 """Answers: the lines that a program prints, in the words of the notation, and back."""
 
 import re
+from typing import NamedTuple
 
 from .fields import Trouble, Words, bytes_in_words
 from .messages import message_in_words, read_message
+from .slips import meant, printable, quoted, unknown
 
 BAD = "bad record"
 NOTHING = "nothing"  # no line at all, which is what every record after a bad one gets
 SIGNS = ("ask", "accept", "up", "error", "release", "down")
 HEX = re.compile(r"(?:[0-9a-f]{2})+")
+NUMBER = re.compile("[0-9]|1[0-4]")
 MEANINGS = (
     "handled", "a setting is out of range", "the clock went back", "no rule for this here",
     "user data too short or too long", "the queue is full", "not well formed",
     "not the message awaited", "echo, spread or minimum wrong", "old", "lost", "late",
     "waited too long", "gap", "output too short",
 )
+(HANDLED, OUT_OF_RANGE, CLOCK_BACK, NO_RULE, DATA_LENGTH, QUEUE_FULL, MALFORMED, NOT_AWAITED,
+ START_WRONG, OLD, LOST, LATE, OVERDUE, GAP, SHORT_OUTPUT) = range(len(MEANINGS))
+
+
+class Answer(NamedTuple):
+    """A printed line, taken apart."""
+
+    number: int
+    outputs: tuple  # pairs: the word, and the bytes behind `send` and `data`
+
+    def has(self, name):
+        return any(name == output for output, _ in self.outputs)
+
+    def bytes_of(self, name):
+        """The bytes behind `send` or `data`, or None where that word is not there."""
+        return next((data for output, data in self.outputs if output == name), None)
 
 
 def read_answer(text):
@@ -22,51 +41,84 @@ def read_answer(text):
     text = " ".join(text.split())
     if text in (BAD, NOTHING):
         return text
-    words = Words(text)
-    number = words.next("the number of the answer")
-    if not re.fullmatch("[0-9]|1[0-4]", number):
-        raise Trouble(f"'{number}' is no answer: there are 0 to 14, '{BAD}' and '{NOTHING}'")
+    words = Words(text, "an answer", "-> 0 ask")
+    number = words.next("its number")
+    if not NUMBER.fullmatch(number):
+        raise Trouble(_no_answer(number, text))
     parts = [number]
-    while words.words:
+    while words.more():
         parts.append(_read_output(words))
     return " ".join(parts)
+
+
+def _no_answer(number, text):
+    said = f"{quoted(number)} is no answer"
+    for at, words in enumerate(MEANINGS):
+        if text.lower().startswith(words):
+            return f"{said}: write its number, {at}"
+    if meant(text, [BAD, NOTHING]):
+        return f"{said}: {meant(text, [BAD, NOTHING])}"
+    digits = re.match("[0-9]+", number)
+    if digits and NUMBER.fullmatch(digits.group()):
+        return f"{said}: only a blank stands behind the number"
+    if number in (*SIGNS, "send", "data"):
+        return f"{said}: the number stands first, as in: -> 0 {number}"
+    return f"{said}: there are 0 to 14, '{BAD}' and '{NOTHING}'"
 
 
 def _read_output(words):
     name = words.next("an output")
     if name in SIGNS:
         return name
-    if name == "send":
-        data = read_message(words)
-    elif name == "data":
-        data = words.bytes("data")
-    else:
-        known = ", ".join([*SIGNS, "send", "data"])
-        raise Trouble(f"'{name}' is no output: there are {known}")
+    if name not in ("send", "data"):
+        raise Trouble(_no_output(name))
+    words.about(name, "0 send bytes 0102" if name == "send" else "0 data c0ffee")
+    data = read_message(words) if name == "send" else words.bytes("bytes")
     if not data:
-        raise Trouble(f"'{name}' needs at least one byte")
+        raise Trouble(f"{quoted(name)} needs at least one byte")
     return f"{name} {data.hex()}"
+
+
+def _no_output(name):
+    if name == "->":
+        return "a record has one answer, and here are two arrows"
+    if name.rstrip(",;") in (*SIGNS, "send", "data"):
+        return f"{quoted(name)} is no output: only blanks stand between the outputs"
+    return unknown(name, "output", [*SIGNS, "send", "data"])
+
+
+def parsed_line(line):
+    """The answer that a printed line holds; Trouble if no program that keeps the format prints it."""
+    number, *words = line.split(" ")
+    if not NUMBER.fullmatch(number):
+        raise Trouble(f"{quoted(line)} is no answer")
+    outputs = []
+    rest = iter(words)
+    for name in rest:
+        data = None
+        if name in ("send", "data"):
+            data = next(rest, "")
+            if not HEX.fullmatch(data):
+                raise Trouble(f"{quoted(line)} is no answer: '{name}' has no hex behind it")
+            data = bytes.fromhex(data)
+        elif name not in SIGNS:
+            raise Trouble(f"{quoted(line)} is no answer: {quoted(name)} is not understood in it")
+        outputs.append((name, data))
+    return Answer(int(number), tuple(outputs))
 
 
 def answer_in_words(line):
     """A printed line in words; Trouble if no program that keeps the format prints it."""
     if line == BAD:
         return BAD
-    number, *words = line.split(" ")
-    if not re.fullmatch("[0-9]|1[0-4]", number):
-        raise Trouble(f"'{line}' is no answer")
-    parts = [number]
-    while words:
-        name = words.pop(0)
-        if name in ("send", "data") and words and HEX.fullmatch(words[0]):
-            data = bytes.fromhex(words.pop(0))
-            shown = message_in_words(data) if name == "send" else bytes_in_words(data)
-            parts.append(f"{name} {shown}")
-        elif name in SIGNS:
-            parts.append(name)
-        else:
-            raise Trouble(f"'{line}' is no answer: '{name}' is not understood in it")
-    return " ".join(parts)
+    answer = parsed_line(line)
+    return " ".join([str(answer.number), *(_output_in_words(*output) for output in answer.outputs)])
+
+
+def _output_in_words(name, data):
+    if data is None:
+        return name
+    return f"{name} {message_in_words(data) if name == 'send' else bytes_in_words(data)}"
 
 
 def shown(line):
@@ -74,7 +126,7 @@ def shown(line):
     try:
         return answer_in_words(line)
     except Trouble:
-        return line
+        return printable(line)
 
 
 def meaning(line):

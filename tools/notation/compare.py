@@ -1,19 +1,19 @@
 """A text held against what a program read and printed."""
 
-from .answers import BAD, NOTHING, answer_in_words, meaning, shown
+from .answers import BAD, NOTHING, answer_in_words, shown
 from .fields import Trouble
 from .records import record_in_words, split_records
-from .script import Entry, Step, laid_out
+from .script import Entry, laid_out
 
 
-def text_of(stdin, printed=None):
+def text_of(stdin, printed=None, filler=True):
     """The text for a program's input and, unless it is a draft, for the lines it printed."""
     records = split_records(stdin)
     answers = [None] * len(records)
     if printed is not None:
         lines = _one_each(printed, len(records))
         answers = [_in_words(line, at) for at, line in enumerate(lines, 1)]
-    rows = (laid_out("", record_in_words(record), answer)
+    rows = (laid_out("", record_in_words(record, filler), answer)
             for record, answer in zip(records, answers))
     return "".join(row + "\n" for row in rows)
 
@@ -85,28 +85,3 @@ def _surplus(script, stdin, printed):
     if printed != [""]:
         return f"{script.name}: the stored output goes on after the last answer: '{printed[0]}'"
     return None
-
-
-def played(script, printed):
-    """Each record beside the line it got, the comments between them, and how many differ."""
-    rows, differ, index = [], 0, 0
-    for item in script.items:
-        if not isinstance(item, Step):
-            rows += ["", item] if index and rows[-1].startswith(" ") else [item]
-            continue
-        entry = item.entry
-        got = printed[index] if index < len(printed) else NOTHING
-        index += 1
-        rows.append(laid_out("  ", entry.words, _with_meaning(got)))
-        if entry.line not in (None, got):
-            differ += 1
-            rows.append(f"  DIFFERS: the text says {shown(entry.line)}")
-    for line in printed[index:]:
-        differ += 1
-        rows.append(f"  DIFFERS: one line more than there are records: {shown(line)}")
-    return "\n".join(rows) + "\n", differ
-
-
-def _with_meaning(line):
-    explained = meaning(line)
-    return shown(line) + (f"  ({explained})" if explained else "")

@@ -8,11 +8,13 @@ import re
 
 from .answers import BAD, NOTHING, read_answer
 from .fields import Trouble
-from .records import LENGTHS, read_record
+from .records import LENGTHS, OTHER_STARTS, read_record
+from .slips import arrow_slip, counted, quoted
 
 ARROW = "->"
 COLUMN = 32  # where the arrows stand, so that the answers can be read downwards
 NAME = re.compile(r"[a-z0-9][a-z0-9-]*")
+MOST_RECORDS = 1_000_000  # blocks inside blocks soon come to more than anybody can play
 
 
 class Entry:
@@ -74,12 +76,15 @@ class Script:
 
     def _read_line(self, number, line):
         text, mark, comment = line.partition("#")
+        slip = arrow_slip(text)
+        if slip:
+            raise Trouble(slip)
         words, arrow, answer = text.partition(ARROW)
         first = words.split()[:1]
         if arrow and not first:
             self._read_lone_answer(answer, comment.strip())
         elif first:
-            if first[0] in ("define", "done", "use"):
+            if first[0] in OTHER_STARTS:
                 self._read_block_word(number, text.split())
                 self.lines.append(line)
             else:
@@ -120,15 +125,17 @@ class Script:
         if word == "define":
             self._open_block(number, name)
         elif name not in self.blocks or name == self.block:
-            raise Trouble(f"no block '{name}' is defined above")
+            raise Trouble(f"no block {quoted(name)} is defined above")
         else:
             self._items().extend(_used(item, number) for item in self.blocks[name])
+            if len(self._items()) > MOST_RECORDS:
+                raise Trouble(f"with this the script has more than {counted(MOST_RECORDS)} records")
 
     def _open_block(self, number, name):
         if self.block is not None:
             raise Trouble(f"a 'define' inside the block '{self.block}'")
         if name in self.blocks:
-            raise Trouble(f"the block '{name}' is defined already")
+            raise Trouble(f"the block {quoted(name)} is defined already")
         self.blocks[name] = []
         self.block, self.block_number = name, number
 
@@ -164,9 +171,16 @@ class Script:
                 raise Trouble(f"{where}: this record is cut ({len(record)} bytes of {length}), "
                               "so it must be the last")
 
+    def records(self):
+        return [step.entry.record for step in self.steps]
+
     def stdin(self):
         """What the program reads."""
-        return b"".join(step.entry.record for step in self.steps)
+        return b"".join(self.records())
+
+    def lines_got(self, printed):
+        """The line that each record got, or None where the program printed none."""
+        return printed[:len(self.steps)] + [None] * (len(self.steps) - len(printed))
 
     def printed(self):
         """The lines that the program must print."""
