@@ -6,9 +6,9 @@ use crate::line::BAD;
 use crate::long;
 use crate::plan;
 use crate::program::{Feeding, Program};
-use crate::record::{Record, Records};
+use crate::record::{front, Front, Record};
 use crate::settings::Role;
-use crate::words::record_in_words;
+use crate::words::{answer_in_words, laid_out, piece_in_words, pieces, script_in_words};
 use std::fmt;
 use std::fs;
 use std::path::Path;
@@ -17,6 +17,8 @@ use std::path::Path;
 const PRINTED: usize = 400;
 /// More of a line than this is not printed; the longest good line is shorter.
 const LINE: usize = 400;
+/// What stands above the scene that a difference is told with.
+const SCENE: &str = "The records since the last valid make, with the answers that they must get:";
 
 /// What to run and how much of it.
 pub struct Plan {
@@ -111,20 +113,23 @@ fn compare_one(
     expected: &str,
     keep: &Path,
 ) -> Result<(), String> {
-    let finished = program.run(&source.script, source.feeding.clone())?;
+    let name = &source.name;
+    let finished = program.run(&source.script, source.feeding.clone());
+    let finished = finished.map_err(|trouble| format!("{name}: {trouble}"))?;
     let printed = String::from_utf8_lossy(&finished.text);
     let ending = format!("it ended with {}", finished.status);
     if let Some(difference) = difference(expected, &printed) {
-        let kept = keep_script(source, keep);
+        let kept = keep_script(source, expected, keep);
         let scene = scene_in_words(&source.script, expected, difference.record);
-        return Err(format!("{difference}\n{ending}\n{kept}\n{scene}"));
+        let heading = commented(&format!("{name}: {difference}\n{ending}\n{kept}\n{SCENE}"));
+        return Err(format!("{heading}\n{scene}"));
     }
-    // After a bad record any exit status will do: the paper names none.
+    // After a bad record any exit status will do: the rules name none.
     let ended_bad = expected.ends_with(&format!("{BAD}\n"));
     match finished.status.code() {
         Some(0) => Ok(()),
         Some(_) if ended_bad => Ok(()),
-        _ => Err(format!("its lines are right, but {ending}")),
+        _ => Err(format!("{name}: its lines are right, but {ending}")),
     }
 }
 
@@ -137,8 +142,7 @@ pub fn compare(
 ) -> Result<(), String> {
     for source in plan.sources() {
         let expected = cover.run(&source.script);
-        compare_one(program, &source, &expected, keep)
-            .map_err(|trouble| format!("{}: {trouble}", source.name))?;
+        compare_one(program, &source, &expected, keep)?;
     }
     Ok(())
 }
@@ -166,34 +170,48 @@ fn quoted(line: &Option<String>) -> String {
     }
 }
 
-/// Keeps the whole script, for `words` and for trying again.
-fn keep_script(source: &Source, keep: &Path) -> String {
-    let path = keep.join(format!("{}.script", source.name.replace(' ', "-")));
-    match fs::write(&path, &source.script) {
-        Ok(()) => format!("the whole script is in {}", path.display()),
+/// Words as comments of a scene, so that they may be pasted with it.
+fn commented(text: &str) -> String {
+    let lines: Vec<String> = text.lines().map(|line| format!("# {line}")).collect();
+    lines.join("\n")
+}
+
+/// Keeps the whole script as bytes, for trying again, and as a scene with
+/// the lines expected for it.
+fn keep_script(source: &Source, expected: &str, keep: &Path) -> String {
+    let name = source.name.replace(' ', "-");
+    let path = keep.join(format!("{name}.script"));
+    let scene = keep.join(format!("{name}.txt"));
+    let kept = fs::write(&path, &source.script)
+        .and_then(|()| fs::write(&scene, script_in_words(&source.script, expected)));
+    match kept {
+        Ok(()) => format!(
+            "the whole script is in {}, and in words in {}",
+            path.display(),
+            scene.display()
+        ),
         Err(error) => format!("the script can't be kept in {}: {error}", path.display()),
     }
 }
 
 /// The records from the last valid make up to the one that differs, each
-/// with the line expected for it.
+/// with the answer expected for it, as a scene.
 fn scene_in_words(script: &[u8], expected: &str, until: usize) -> String {
     let mut scene: Vec<String> = Vec::new();
-    let steps = Records::of(script).zip(expected.lines()).take(until);
-    for (at, (record, line)) in steps.enumerate() {
-        let words = match record {
-            Ok(Record::Make(make)) if make.settings.check().is_ok() => {
-                scene.clear();
-                record_in_words(&Record::Make(make))
-            }
-            Ok(record) => record_in_words(&record),
-            Err(bad) => format!("bad record: {bad}"),
-        };
-        scene.push(format!("{} {words} -> {line}", at + 1));
+    for (piece, line) in pieces(script).into_iter().zip(expected.lines()).take(until) {
+        if begins_anew(piece) {
+            scene.clear();
+        }
+        scene.push(laid_out(&piece_in_words(piece), &answer_in_words(line)));
     }
     let skipped = scene.len().saturating_sub(PRINTED);
     if skipped > 1 {
-        scene.splice(1..=skipped, [format!("... {skipped} records ...")]);
+        scene.splice(1..=skipped, [format!("# {skipped} records are left out here")]);
     }
-    format!("records since the last valid make, and their lines:\n{}", scene.join("\n"))
+    scene.join("\n")
+}
+
+/// Whether a record makes an end.
+fn begins_anew(piece: &[u8]) -> bool {
+    matches!(front(piece), Front::Whole(Record::Make(make), _) if make.settings.check().is_ok())
 }

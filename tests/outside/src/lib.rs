@@ -1,4 +1,4 @@
-//! One end of the link between radio block centres, written from the paper
+//! One end of the link between radio block centres, written from the rules
 //! alone, and the tools that hold another implementation against it.
 //!
 //! The end itself is in [`clock`], [`settings`], [`wire`] and [`link`]; the

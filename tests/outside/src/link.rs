@@ -16,7 +16,7 @@ const AHEAD: u16 = 32_767;
 /// The least output that may be lent.
 pub const ROOM: usize = LONGEST;
 
-/// The answers, by the paper's numbers.
+/// The answers, by the rules' numbers.
 pub mod answer {
     pub const HANDLED: u8 = 0;
     pub const OUT_OF_RANGE: u8 = 1;

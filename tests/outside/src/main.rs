@@ -18,7 +18,7 @@ use std::time::Duration;
 
 const USAGE: &str = "outside sunday < script      answers as the script comes
 outside lines < script       answers a whole script
-outside words < script       prints a script in words
+outside words < script       prints a script as a scene, with its answers
 outside generate [--seed S] [--long ROLE] > script
 outside cover [--scripts N] [--seed S] [--no-long] [--table] [--unreachable]
 outside compare --program CMD.. [--scripts N] [--seed S] [--no-long] [--any-cover]

@@ -17,7 +17,7 @@ impl fmt::Display for Role {
     }
 }
 
-/// The eight settings, by the letters of the paper.
+/// The eight settings, by the letters of the rules.
 #[derive(Clone, Copy, PartialEq, Eq, Debug)]
 pub struct Settings {
     /// A, the age limit.

@@ -1,4 +1,4 @@
-//! The figures of the paper, "Both sides of each line".
+//! The figures of the rules, "Both sides of each line".
 
 mod common;
 

@@ -100,7 +100,7 @@ fn the_longest_message_fits_the_least_output() {
 }
 
 #[test]
-fn bytes_stand_where_the_paper_puts_them() {
+fn bytes_stand_where_the_rules_put_them() {
     let bounds = Bounds { min: Offset(0x1112_1314), max: Offset(0x1516_1718) };
     let bytes = message(0x0203, 0x0405_0607, 0x0809_0a0b, 0x0c0d_0e0f, Body::Start4(bounds));
     let expected: Vec<u8> = [4].into_iter().chain(2..=15).chain(0x11..=0x18).collect();

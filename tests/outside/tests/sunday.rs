@@ -1,4 +1,4 @@
-//! The Sunday script: the example of the paper, bad records, and input in
+//! The Sunday script: the example of the rules, bad records, and input in
 //! any pieces.
 
 mod common;
@@ -48,12 +48,12 @@ const EXAMPLE_LINES: &str = "0
 ";
 
 #[test]
-fn the_example_of_the_paper() {
+fn the_example_of_the_rules() {
     assert_eq!(lines(&example()), EXAMPLE_LINES);
 }
 
 #[test]
-fn make_has_the_widths_of_the_paper() {
+fn make_has_the_widths_of_the_rules() {
     let bytes = example();
     let expected: [u8; 33] = [
         1, 0, 0, 0, 0, 100, 0, 0, 0, 50, 0, 0, 0, 20, 0, 4, 2, 0, 0, 1, 0x2c, 0, 0, 0, 100, 0, 0,
