@@ -8,14 +8,11 @@ use borrow.Author.Needs.{needs}
 use Rattle.codec.proofs.number.byte_past.Statement.{statement}
 use Rattle.codec.proofs.number.byte_past.Tie as tie
 
+bytes-from-requires : tie.Need-bytes-from-requires
+bytes-from-requires c κs = search needs
+
 returns : tie.Need-returns
-returns c = let a = c .before .before .args in (sym (List·getD-eq-default (now (a .s)) 0 {n = a .at + a .k} (omega arith)), omega arith)
-
-sub-if2 : tie.Need-sub-if2
-sub-if2 c = search needs
-
-returns-2 : tie.Need-returns-2
-returns-2 c = let a = c .before .before .before .args in (sym (List·getD-eq-default (now (a .s)) 0 {n = a .at + a .k} (omega arith)), omega arith)
+returns c = let a = c .before .before .before .args in (sym (List·getD-eq-default (now (a .s)) 0 {n = a .at + a .k} (omega arith)), omega arith)
 
 add-place : tie.Need-add-place
 add-place c = search needs
@@ -26,10 +23,10 @@ shared-slice-read-wide c = search needs
 wide-requires : tie.Need-wide-requires
 wide-requires c κs = search needs
 
-returns-3 : tie.Need-returns-3
-returns-3 c = search needs
+returns-2 : tie.Need-returns-2
+returns-2 c = search needs
 
 pub byte-past-spec : {M : Type 1} → statement M
 byte-past-spec =
     tie.close
-    (tie.spec returns sub-if2 returns-2 add-place shared-slice-read-wide wide-requires returns-3)
+    (tie.spec bytes-from-requires returns add-place shared-slice-read-wide wide-requires returns-2)

@@ -1,10 +1,20 @@
 -- `codec::number::read_u32` meets its contract.
+use native.Mathlib.Omega.{arith}
 use mathlib.Core.Path.{_∙_}
-use Rattle.codec.proofs.Places.{four-read}
+use Rattle.codec.proofs.Places.{three-read}
 use denote.Ref.{now}
 use borrow.Author.Needs.{needs}
 use Rattle.codec.proofs.number.read_u32.Statement.{statement}
 use Rattle.codec.proofs.number.read_u32.Tie as tie
+
+bytes-from-requires : tie.Need-bytes-from-requires
+bytes-from-requires c κs = search needs
+
+field-u32-requires : tie.Need-field-u32-requires
+field-u32-requires c κs = search needs
+
+returns : tie.Need-returns
+returns c = search needs
 
 byte-past-requires : tie.Need-byte-past-requires
 byte-past-requires c κs = search needs
@@ -14,9 +24,6 @@ byte-past-requires-2 c κs = search needs
 
 byte-past-requires-3 : tie.Need-byte-past-requires-3
 byte-past-requires-3 c κs = search needs
-
-byte-past-requires-4 : tie.Need-byte-past-requires-4
-byte-past-requires-4 c κs = search needs
 
 mul-result : tie.Need-mul-result
 mul-result c = search needs
@@ -33,24 +40,22 @@ mul-result-3 c = search needs
 add-result-2 : tie.Need-add-result-2
 add-result-2 c = search needs
 
-add-result-3 : tie.Need-add-result-3
-add-result-3 c = search needs
-
-returns : tie.Need-returns
-returns c = let a = c .before .before .before .before .before .args in (cc) ∙ four-read (now (a .s)) (a .at)
+returns-2 : tie.Need-returns-2
+returns-2 c = let a = c .before .before .before .before .before .before .args in (cc) ∙ three-read (now (a .s)) (a .at) (omega arith)
 
 pub read-u32-spec : {M : Type 1} → statement M
 read-u32-spec =
     tie.close
     (tie.spec
+    bytes-from-requires
+    field-u32-requires
+    returns
     byte-past-requires
     byte-past-requires-2
     byte-past-requires-3
-    byte-past-requires-4
     mul-result
     mul-result-2
     add-result
     mul-result-3
     add-result-2
-    add-result-3
-    returns)
+    returns-2)
