@@ -58,8 +58,9 @@ are-bytes x (suc (suc zero)) = omega arith
 are-bytes x (suc (suc (suc zero))) = omega arith
 are-bytes x (suc (suc (suc (suc k)))) = omega arith
 
--- the number that they write has them
-pub turned-round : (x : ℕ) → bytesOf 4 (x % 256 * 16_777_216 + x / 256 % 256 * 65_536 + x / 65_536 % 256 * 256 + x / 16_777_216 % 256) ≡ reverse (bytesOf 4 x)
-turned-round x =
-    let is : x % 256 * 16_777_216 + x / 256 % 256 * 65_536 + x / 65_536 % 256 * 256 + x / 16_777_216 % 256 ≡ numberAt 4 (turned x) 0 = omega arith in
-    ap (bytesOf 4) is ∙ read-writes 4 (turned x) 0 (are-bytes x) (omega arith)
+-- a number that is the sum of them has them
+pub turned-round : (x r : ℕ) → r ≡ x % 256 * 16_777_216 + x / 256 % 256 * 65_536 + x / 65_536 % 256 * 256 + x / 16_777_216 % 256
+    → bytesOf 4 r ≡ reverse (bytesOf 4 x)
+turned-round x r is =
+    let read : r ≡ numberAt 4 (turned x) 0 = omega (arith, is) in
+    ap (bytesOf 4) read ∙ read-writes 4 (turned x) 0 (are-bytes x) (omega arith)

@@ -91,7 +91,8 @@ pub fn write_u16(s: &mut [u8], at: usize, x: u16)
     store_past(s, at, 1, (x % 256) as u8);
 }
 
-// The four bytes of a number stored at a place, by the same test.
+// The four bytes of a number stored at a place. Where all have room, one test does for them; where the end
+// cuts them, the last is left out.
 pub fn write_u32(s: &mut [u8], at: usize, x: u32)
     ensures { λ _. ⌜ now (s .exit) ≡ sets (now (s .entry)) at (bytesOf 4 x) ⌝ }
 {

@@ -1,4 +1,5 @@
 -- `codec::field::backwards` meets its contract.
+use mathlib.Core.Path.{refl}
 use borrow.Author.Needs.{needs}
 use Rattle.codec.proofs.Places.{turned-round}
 use Rattle.codec.proofs.field.backwards.Statement.{statement}
@@ -23,7 +24,7 @@ add-result-3 : tie.Need-add-result-3
 add-result-3 c = search needs
 
 returns : tie.Need-returns
-returns c = turned-round (c .args .x)
+returns c = turned-round (c .args .x) _ refl
 
 pub backwards-spec : {M : Type 1} → statement M
 backwards-spec =

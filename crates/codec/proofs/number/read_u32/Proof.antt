@@ -1,6 +1,5 @@
 -- `codec::number::read_u32` meets its contract.
 use native.Mathlib.Omega.{arith}
-use mathlib.Core.Path.{_∙_}
 use Rattle.codec.proofs.Places.{three-read}
 use denote.Ref.{now}
 use borrow.Author.Needs.{needs}
@@ -41,7 +40,7 @@ add-result-2 : tie.Need-add-result-2
 add-result-2 c = search needs
 
 returns-2 : tie.Need-returns-2
-returns-2 c = let a = c .before .before .before .before .before .before .args in (cc) ∙ three-read (now (a .s)) (a .at) (omega arith)
+returns-2 c = let a = c .before .before .before .before .before .before .args in omega (arith, three-read (now (a .s)) (a .at) (omega arith))
 
 pub read-u32-spec : {M : Type 1} → statement M
 read-u32-spec =

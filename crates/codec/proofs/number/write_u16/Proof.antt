@@ -1,8 +1,10 @@
 -- `codec::number::write_u16` meets its contract.
-use mathlib.Core.Path.{_∙_}
+use mathlib.Core.Path.{ap, _∙_}
+use mathlib.Core.List.{List}
+use lib.ListN.{set}
 use native.Mathlib.Nat.{div-one}
 use Rattle.codec.proofs.Places.{two-stored}
-use Prim.Native.Nat.{_/_, _%_}
+use Prim.Native.Nat.{ℕ, _+_, _/_, _%_}
 use denote.Ref.{now}
 use borrow.Author.Needs.{needs}
 use Rattle.codec.proofs.number.write_u16.Statement.{statement}
@@ -25,7 +27,9 @@ same-length c = search needs
 
 returns : tie.Need-returns
 returns c = let a = c .before .before .before .before .before .before .before .before .before .args in
-    simp div-one ((cc) ∙ two-stored (now (a .s)) (a .at) (a .x / 256 % 256) (a .x % 256))
+    let first = c .before .before .before .before .before .before .store-past .ensures in
+    let second = c .before .before .store-past2 .ensures in
+    simp div-one (second ∙ ap (λ (l : List ℕ). set l (a .at + 1) (a .x % 256)) first ∙ two-stored (now (a .s)) (a .at) (a .x / 256 % 256) (a .x % 256))
 
 pub write-u16-spec : {M : Type 1} → statement M
 write-u16-spec =

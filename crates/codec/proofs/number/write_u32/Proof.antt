@@ -1,9 +1,11 @@
 -- `codec::number::write_u32` meets its contract.
 use native.Mathlib.Omega.{arith}
-use mathlib.Core.Path.{_∙_}
+use mathlib.Core.Path.{ap, _∙_}
+use mathlib.Core.List.{List}
+use lib.ListN.{set}
 use native.Mathlib.Nat.{div-one}
 use Rattle.codec.proofs.Places.{three-stored}
-use Prim.Native.Nat.{_/_, _%_}
+use Prim.Native.Nat.{ℕ, _+_, _/_, _%_}
 use denote.Ref.{now}
 use borrow.Author.Needs.{needs}
 use Rattle.codec.proofs.number.write_u32.Statement.{statement}
@@ -44,7 +46,11 @@ same-length-2 c = search needs
 
 returns-2 : tie.Need-returns-2
 returns-2 c = let a = c .before .before .before .before .before .before .before .before .before .before .before .before .before .before .before .before .args in
-    simp div-one ((cc) ∙ three-stored (now (a .s)) (a .at) (a .x / 16_777_216 % 256) (a .x / 65_536 % 256) (a .x / 256 % 256) (a .x % 256) (omega arith))
+    let first = c .before .before .before .before .before .before .before .before .before .before .store-past .ensures in
+    let second = c .before .before .before .before .before .before .store-past2 .ensures in
+    let third = c .before .before .store-past3 .ensures in
+    simp div-one (third ∙ ap (λ (l : List ℕ). set l (a .at + 2) (a .x / 256 % 256)) (second ∙ ap (λ (l : List ℕ). set l (a .at + 1) (a .x / 65_536 % 256)) first)
+    ∙ three-stored (now (a .s)) (a .at) (a .x / 16_777_216 % 256) (a .x / 65_536 % 256) (a .x / 256 % 256) (a .x % 256) (omega arith))
 
 pub write-u32-spec : {M : Type 1} → statement M
 write-u32-spec =
