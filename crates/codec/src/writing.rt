@@ -119,5 +119,6 @@ fn put_train_data(part: &mut [u8], train: &[u8])
     ensures { part.new ≡ over (3 ∷ train.now) part.old }
 {
     set_u8(part, 0, 3);
-    bytes::copy(train, &mut part[1..]);
+    let end = 1 + train.len();
+    part[1..end].copy_from_slice(train);
 }

@@ -1,1 +1,2 @@
 // Definitions and proofs only: what holds of every run of one end.
+#![tactic(auto)]

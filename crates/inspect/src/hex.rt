@@ -3,7 +3,7 @@ ghost use Rattle.std.specs.Prelude.{◌≡◌, true, false, ◌≤◌, length};
 ghost use Rattle.inspect.specs.Hex.{nibble_of, fed_line, fed_bytes, digit_line, digit_bytes};
 
 // How much of a line has been read.
-#[derive(Drop)]
+#[derive(Clone, Copy)]
 pub struct Line {
     // The whole bytes so far.
     pub len: usize,

@@ -3,6 +3,8 @@
 // alone is passed over. For each of the others one line is printed: 'malformed', or kind, number,
 // sent, echo and receipt, then the offsets of kind 4 or, for kind 6, the payload's first byte and
 // the train data in hexadecimal.
+#![tactic(auto)]
+
 mod hex;
 mod show;
 

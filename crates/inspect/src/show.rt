@@ -8,7 +8,7 @@ use codec::kind::kind_of;
 use codec::reading::{read_message, train_data};
 use wire::message::{Body, Header, Parsed};
 
-#[derive(Drop)]
+#[derive(Clone, Copy)]
 pub struct Row {
     pub values: [u32; 7],
     pub count: usize,

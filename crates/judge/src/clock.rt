@@ -5,15 +5,15 @@ ghost use Rattle.judge.specs.Clock.{since_of, back_of, passed_of, same_of, offse
 use std::num::wrapping_sub_u32;
 
 // What one clock shows, in ticks. It wraps.
-#[derive(Drop)]
+#[derive(Clone, Copy)]
 pub struct Reading(pub u32);
 
 // By how much one clock is ahead of another, in ticks. It wraps, and it is no reading.
-#[derive(Drop)]
+#[derive(Clone, Copy)]
 pub struct Offset(pub u32);
 
 // The time stamps of a message, all readings.
-#[derive(Drop)]
+#[derive(Clone, Copy)]
 pub struct Stamps {
     // The sender's when it sent this.
     pub sent: Reading,
@@ -24,7 +24,7 @@ pub struct Stamps {
 }
 
 // Two bounds of how far the own clock is ahead of the peer's, and the own reading that began them.
-#[derive(Drop)]
+#[derive(Clone, Copy)]
 pub struct Offsets {
     pub minimum: Offset,
     pub maximum: Offset,

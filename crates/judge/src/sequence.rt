@@ -4,7 +4,7 @@ ghost use Rattle.judge.specs.Sequence.{ahead_of, next_of, class_of};
 
 use std::num::wrapping_sub_u16;
 
-#[derive(Drop)]
+#[derive(Clone, Copy)]
 pub enum Class {
     // The next one.
     Expected,

@@ -6,6 +6,8 @@
 //
 // A step goes in three: the crate `decide` decides by tests alone, the crate `perform` works out what
 // follows without tests, and `place` alone touches bytes.
+#![tactic(auto)]
+
 pub mod answer;
 pub mod make;
 mod place;

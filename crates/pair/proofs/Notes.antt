@@ -76,10 +76,12 @@ notes_length [] = refl
 notes_length (l ∷ ls) = ap suc (notes_length ls)
 
 pub note_among : (ls : List Letter) (l : Letter) → Among l ls → Among (note_of l) (notes_of ls)
+note_among [] l x = elim x [ ]
 note_among (k ∷ ls) l (inl is) = inl (ap note_of is)
 note_among (k ∷ ls) l (inr i) = inr (note_among ls l i)
 
 pub among_letter : (ls : List Letter) (n : Note) → Among n (notes_of ls) → Among n.letter ls
+among_letter [] n x = elim x [ ]
 among_letter (k ∷ ls) n (inl is) = inl (ap (λ (m : Note). m.letter) is ∙ note_letter k)
 among_letter (k ∷ ls) n (inr i) = inr (among_letter ls n i)
 

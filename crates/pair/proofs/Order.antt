@@ -67,6 +67,7 @@ abbrev pub Order : View → List Note → Type 0
 Order x log = record { numbers : Numbers x; sent : Sent x; delivered : Delivered x log }
 
 pub placed_below : (log : List Note) → Placed log → (n : Note) → Among n log → n.letter.place < length log
+placed_below [] p n x = elim x [ ]
 placed_below (m ∷ log) p n (inl is) = let e = ap (λ (k : Note). k.letter.place) is in let f = p.0 in omega arith
 placed_below (m ∷ log) p n (inr i) = let q = placed_below log p.1 n i in omega arith
 

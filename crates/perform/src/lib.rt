@@ -1,6 +1,8 @@
 // What follows from an act: the end afterwards, the reports, the answer, and what is to be done with bytes.
 //
 // There are no tests here but those of the act itself, and no bytes.
+#![tactic(auto)]
+
 mod connecting;
 pub mod end;
 mod exchanging;

@@ -2,6 +2,8 @@
 //
 // `play::play` answers the records of a script or of a piece of one, and `reply::reply` answers one record.
 // `feed::feed` is what a program does between two reads. They take anything, and nothing is kept between calls.
+#![tactic(auto)]
+
 pub mod feed;
 mod line;
 mod part;

@@ -2,6 +2,8 @@
 // timed: a called end comes Up, and then one message with its train data comes again and again with
 // the next number each time. Standard input has the peer's three messages of the start, that message,
 // and the reading of every event, so that the compiler knows none of them.
+#![tactic(auto)]
+
 mod timed;
 
 use codec::number::{read_u32, write_u16};

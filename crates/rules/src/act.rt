@@ -4,7 +4,7 @@ use judge::clock::Offsets;
 use wire::message::{Body, Header};
 
 // What can happen. The bytes of user data and of messages stand beside it.
-#[derive(Drop)]
+#[derive(Clone, Copy)]
 pub enum Event {
     Tick,
     Connect,
@@ -14,7 +14,7 @@ pub enum Event {
     Message,
 }
 
-#[derive(Drop)]
+#[derive(Clone, Copy)]
 pub enum Act {
     // Everything stays as it is, the reading too.
     Stay(Answer),
@@ -27,7 +27,7 @@ pub enum Act {
 }
 
 // How a connection begins and ends.
-#[derive(Drop)]
+#[derive(Clone, Copy)]
 pub enum ConnectionMove {
     Ask,
     Accept,
@@ -38,21 +38,21 @@ pub enum ConnectionMove {
 }
 
 // A message of the start that has come, and the body of the one that goes back.
-#[derive(Drop)]
+#[derive(Clone, Copy)]
 pub struct Swap {
     pub came: Header,
     pub goes: Body,
 }
 
 // The same, with the offsets that are worked out from what came.
-#[derive(Drop)]
+#[derive(Clone, Copy)]
 pub struct Measurement {
     pub swap: Swap,
     pub offsets: Offsets,
 }
 
 // The messages of the clock start.
-#[derive(Drop)]
+#[derive(Clone, Copy)]
 pub enum Exchange {
     // Confirmed: the first message goes out.
     Begin(Body),
@@ -69,7 +69,7 @@ pub enum Exchange {
 }
 
 // A message that is delivered: train data to the user, a life sign to nobody.
-#[derive(Drop)]
+#[derive(Clone, Copy)]
 pub struct Delivery {
     pub header: Header,
     pub age: u32,
@@ -79,7 +79,7 @@ pub struct Delivery {
 }
 
 // What is made of a message while Up.
-#[derive(Drop)]
+#[derive(Clone, Copy)]
 pub enum Verdict {
     // After a gap with an error report.
     Deliver(Delivery),
@@ -88,7 +88,7 @@ pub enum Verdict {
 }
 
 // What is said while Up.
-#[derive(Drop)]
+#[derive(Clone, Copy)]
 pub enum Speech {
     // A tick with nothing to say.
     Quiet,

@@ -1,6 +1,6 @@
 // What an end answers.
 
-#[derive(Drop)]
+#[derive(Clone, Copy)]
 pub enum Answer {
     // The event was handled.
     Handled,

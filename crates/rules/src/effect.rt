@@ -8,7 +8,7 @@ use wire::message::{HEADER, LONGEST, Message};
 pub const ROOM: usize = HEADER + 1 + LONGEST;
 
 // What is reported. The order in which outputs leave is that of `Outputs.outputs_of` in specs/.
-#[derive(Drop)]
+#[derive(Clone, Copy)]
 pub struct Flags {
     pub ask: bool,
     pub accept: bool,
@@ -19,7 +19,7 @@ pub struct Flags {
 }
 
 // What is to be done with bytes.
-#[derive(Drop)]
+#[derive(Clone, Copy)]
 pub enum Placing {
     Nothing,
     // A message without train data goes out.
@@ -35,7 +35,7 @@ pub enum Placing {
 }
 
 // An act carried out, but for its bytes.
-#[derive(Drop)]
+#[derive(Clone, Copy)]
 pub struct Effect {
     pub end: End,
     pub placing: Placing,
@@ -44,7 +44,7 @@ pub struct Effect {
 }
 
 // What stands at the front of the lent output, and how many bytes it has.
-#[derive(Drop)]
+#[derive(Clone, Copy)]
 pub enum Front {
     Nothing,
     Message(usize),
@@ -52,7 +52,7 @@ pub enum Front {
 }
 
 // What one event came to.
-#[derive(Drop)]
+#[derive(Clone, Copy)]
 pub struct Outcome {
     pub end: End,
     pub front: Front,
@@ -61,7 +61,7 @@ pub struct Outcome {
 }
 
 // What making an end came to.
-#[derive(Drop)]
+#[derive(Clone, Copy)]
 pub enum Made {
     Fresh(End),
     Refused(Answer),

@@ -2,6 +2,8 @@
 //
 // Here are the types alone. The definitions in specs/ say what every event comes to (`Step.stepped`) and how
 // an end begins (`Make.made_of`); the crates `decide`, `perform` and `link` do it.
+#![tactic(auto)]
+
 pub mod act;
 pub mod answer;
 pub mod effect;

@@ -1,6 +1,6 @@
 // The numbers that the installer sets.
 
-#[derive(Drop)]
+#[derive(Clone, Copy)]
 pub struct Settings {
     // A: how old a message may be.
     pub age: u32,

@@ -4,7 +4,7 @@ use crate::settings::Settings;
 use judge::clock::{Offsets, Reading};
 use queue::Ring;
 
-#[derive(Drop)]
+#[derive(Clone, Copy)]
 pub enum Role {
     Initiator,
     Called,
@@ -12,7 +12,7 @@ pub enum Role {
 
 // The initiator goes from Idle by Calling, Opening and Settling to Up, the called end from Idle by
 // Greeted, Answering and Closing.
-#[derive(Drop)]
+#[derive(Clone, Copy)]
 pub enum Life {
     Idle,
     Calling,
@@ -25,7 +25,7 @@ pub enum Life {
 }
 
 // A life as far as most rules tell it apart.
-#[derive(Drop)]
+#[derive(Clone, Copy)]
 pub enum Phase {
     Idle,
     Starting,
@@ -33,28 +33,28 @@ pub enum Phase {
 }
 
 // When the last kind 6 went, and when the last message was delivered; or coming Up.
-#[derive(Drop)]
+#[derive(Clone, Copy)]
 pub struct Times {
     pub said: Reading,
     pub heard: Reading,
 }
 
 // The stamps to echo: the peer's reading in the last message accepted, and the own one then.
-#[derive(Drop)]
+#[derive(Clone, Copy)]
 pub struct Echo {
     pub peer: Reading,
     pub own: Reading,
 }
 
 // The number of the next message, and that of the last one accepted.
-#[derive(Drop)]
+#[derive(Clone, Copy)]
 pub struct Numbers {
     pub next: u16,
     pub last: u16,
 }
 
 // What an end holds of its connection. All zeros while Idle.
-#[derive(Drop)]
+#[derive(Clone, Copy)]
 pub struct Line {
     // The peer's clock against the own one. Its `since` is the own reading in kind 1 or kind 2, from when
     // that is sent.
@@ -71,13 +71,13 @@ pub struct Line {
 }
 
 // When an initiator last asked, and whether it may ask again without waiting.
-#[derive(Drop)]
+#[derive(Clone, Copy)]
 pub struct Asking {
     pub when: Reading,
     pub at_once: bool,
 }
 
-#[derive(Drop)]
+#[derive(Clone, Copy)]
 pub struct End {
     pub settings: Settings,
     pub line: Line,

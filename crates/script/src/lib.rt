@@ -2,6 +2,8 @@
 //
 // Here are the types alone. The definitions in specs/ say what a script prints (`Script.printed`) and what a
 // piece of one does (`Play.played`); the crate `player` prints it.
+#![tactic(auto)]
+
 pub mod record;
 pub mod reply;
 pub mod seat;

@@ -11,13 +11,13 @@ pub const DATA_FIELD: usize = 100;
 pub const MESSAGE_FIELD: usize = 128;
 
 // So many bytes of a record, from a place on.
-#[derive(Drop)]
+#[derive(Clone, Copy)]
 pub struct Span {
     pub from: usize,
     pub count: usize,
 }
 
-#[derive(Drop)]
+#[derive(Clone, Copy)]
 pub enum Record {
     Make {
         role: Role,

@@ -6,7 +6,7 @@ use rules::effect::ROOM;
 pub const LINE: usize = 2 * ROOM + 64;
 
 // One record was answered.
-#[derive(Drop)]
+#[derive(Clone, Copy)]
 pub struct Replied {
     pub seat: Seat,
     // Where the line ends in the text.
@@ -16,7 +16,7 @@ pub struct Replied {
 }
 
 // A piece of a script was played.
-#[derive(Drop)]
+#[derive(Clone, Copy)]
 pub struct Played {
     pub seat: Seat,
     // How many bytes of the piece were answered, and how many of the text were written.
@@ -27,7 +27,7 @@ pub struct Played {
 }
 
 // What waited in the buffer of a program was played, as far as it went.
-#[derive(Drop)]
+#[derive(Clone, Copy)]
 pub struct Fed {
     pub seat: Seat,
     // How many bytes of the text are to be printed.
@@ -39,7 +39,7 @@ pub struct Fed {
 }
 
 // What a program does once it has printed.
-#[derive(Drop)]
+#[derive(Clone, Copy)]
 pub enum Next {
     // More can be played of what has come.
     Again,

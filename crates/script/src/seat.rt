@@ -1,7 +1,7 @@
 // The end that a script speaks of.
 use rules::state::End;
 
-#[derive(Drop)]
+#[derive(Clone, Copy)]
 pub enum Seat {
     // Before a valid make.
     Empty,

@@ -2,6 +2,8 @@
 //
 // Any bytes and any numbers are a ring: a head goes round, a count is held to the places, and the
 // length in a slot to those of data. So every entry can be sent, and no call fails.
+#![tactic(auto)]
+
 ghost use Rattle.std.specs.Prelude.{◌≡◌, ◌+◌, ◌≤◌, length};
 ghost use Rattle.std.proofs.lemmas.List.Edits.{sets};
 ghost use Rattle.wire.specs.Message.{longest};
@@ -130,5 +132,6 @@ fn fill(part: &mut [u8], d: &[u8])
 {
     let n = d.len() as u16;
     write_u16(part, 0, n);
-    bytes::copy(d, &mut part[2..]);
+    let end = 2 + d.len();
+    part[2..end].copy_from_slice(d);
 }

@@ -1,5 +1,7 @@
 // Plays the script on standard input and prints one line for each record. All that is done between two
 // reads is `feed` of the library `player`; here are the buffers, and the calls that read and write.
+#![tactic(auto)]
+
 mod input;
 
 use input::read_more;

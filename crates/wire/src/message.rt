@@ -8,7 +8,7 @@ pub const LONGEST: usize = 100;
 pub const HEADER: usize = 15;
 
 // What every message carries.
-#[derive(Drop)]
+#[derive(Clone, Copy)]
 pub struct Header {
     pub stamps: Stamps,
     // The sequence number.
@@ -16,7 +16,7 @@ pub struct Header {
 }
 
 // What a message is for: the five of the clock start, and the two of a link that is up.
-#[derive(Drop)]
+#[derive(Clone, Copy)]
 pub enum Body {
     OffsetStart,
     OffsetAnsw1,
@@ -27,21 +27,21 @@ pub enum Body {
     TrainData,
 }
 
-#[derive(Drop)]
+#[derive(Clone, Copy)]
 pub struct Message {
     pub header: Header,
     pub body: Body,
 }
 
 // What any bytes come to.
-#[derive(Drop)]
+#[derive(Clone, Copy)]
 pub enum Parsed {
     WellFormed(Message),
     Malformed,
 }
 
 // What the first byte says of all that follows.
-#[derive(Drop)]
+#[derive(Clone, Copy)]
 pub enum Shape {
     // Nothing after the header.
     Bare(Body),

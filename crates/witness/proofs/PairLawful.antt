@@ -66,6 +66,7 @@ cond_nor true b e = absurd (false≢true e)
 cond_nor false b e = (refl, e)
 
 none_of : (x : ℕ) (ys : List ℕ) → not (is_one_of x ys) ≡ true → Among x ys → ⊥
+none_of x [] e i = elim i [ ]
 none_of x (y ∷ ys) e (inl is) = eqb-false x y (cond_nor (eqb x y) (is_one_of x ys) e).0 is
 none_of x (y ∷ ys) e (inr i) = none_of x ys (cond_nor (eqb x y) (is_one_of x ys) e).1 i
 

@@ -1,1 +1,3 @@
 // Definitions and proofs only: runs that really happen.
+#![tactic(auto)]
+
