@@ -16,6 +16,7 @@ use rules::answer::Answer;
 use rules::effect::ROOM;
 use rules::state::End;
 
+#[tactic(auto, unfolding(rules::specs::Decide::decide_of))]
 pub fn decide(e: End, event: Event, at: Reading, bytes: &[u8], room: usize) -> Act
     ensures { result ≡ decide_of e event at bytes.now room }
 {
@@ -29,6 +30,7 @@ pub fn decide(e: End, event: Event, at: Reading, bytes: &[u8], room: usize) -> A
     on_event(e, event, at, bytes)
 }
 
+#[tactic(auto, unfolding(rules::specs::Decide::on_event))]
 fn on_event(e: End, event: Event, at: Reading, bytes: &[u8]) -> Act
     ensures { result ≡ on_event e event at bytes.now }
 {
