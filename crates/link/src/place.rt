@@ -47,6 +47,7 @@ fn deliver(out: &mut [u8], given: &[u8]) -> Front
     ensures out_after { out.new ≡ over (train_in given.now) out.old }
 {
     let train = train_data(given);
-    let n = bytes::copy(train, out);
+    let n = train.len();
+    out[..n].copy_from_slice(train);
     Front::Datum(n)
 }

@@ -12,6 +12,7 @@ use rules::answer::Answer;
 use rules::effect::{Effect, Placing};
 use rules::state::End;
 
+#[tactic(auto, unfolding(rules::specs::Perform::performed))]
 pub fn perform(e: End, act: Act, at: Reading) -> Effect
     ensures { result ≡ performed e act at }
 {
