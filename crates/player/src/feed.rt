@@ -27,7 +27,7 @@ pub fn feed(
     text: &mut [u8],
 ) -> Fed
     ensures feed_promise { FeedPromise over (held_as seat q.old out.old) (input_as input.old start end) text.old (record { fed = result; buffer = input.new; text = text.new; queue = q.new; out = out.new }) }
-    ensures end_le_end { (result.end ≤ end) × (result.wrote ≤ length text.old) }
+    ensures in_bounds { (result.end ≤ end) × (result.wrote ≤ length text.old) }
 {
     let r = play(seat, between(input, start, end), over, out, q, text);
     let held = r.seat;
