@@ -236,6 +236,6 @@ initiator_asks m sound start g xs clock often small first idle =
     let last = near g ticks m start xs often in
     let held = (run_asking m sound start g (omega arith) first xs clock often).stage in
     let stage = subst
-            (Stage m.settings g (after m (calls_of xs)).end (time_of ticks m start xs) (time_of asks_in m start xs) (time_of waits m start xs) (time_of rests m start xs))
-            (ap phase_of idle) held in
+    (Stage m.settings g (after m (calls_of xs)).end (time_of ticks m start xs) (time_of asks_in m start xs) (time_of waits m start xs) (time_of rests m start xs))
+    (ap phase_of idle) held in
     ⊎_elim (λ z. inl (omega arith, omega arith)) (λ z. inr (omega arith, omega arith)) stage.0

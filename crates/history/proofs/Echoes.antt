@@ -20,7 +20,6 @@ use Rattle.rules.specs.Claims.{answer_of}
 use Rattle.rules.specs.Perform.{performed}
 use Rattle.rules.specs.Place.{front_after}
 use Rattle.rules.specs.Talking.{has_gap, delivered_answer, delivering}
-use Rattle.rules.specs.declared.answer.Answer.{Answer}
 use Rattle.rules.specs.declared.answer.Answer.TheVariants.{Handled}
 use Rattle.rules.specs.declared.act.Event.{Event}
 use Rattle.rules.specs.declared.act.Act.{Act}

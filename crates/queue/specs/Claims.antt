@@ -1,6 +1,5 @@
 -- What is claimed of a queue. Each claim is a type here and has its proof in proofs/Claims.antt.
-use Rattle.std.specs.Prelude.{ℕ, ◌≤◌, ◌<◌, List, [], ◌∷◌, ◌++◌, ◌≡◌, length, get_or}
-use Rattle.wire.specs.Message.{longest}
+use Rattle.std.specs.Prelude.{ℕ, ◌<◌, List, [], ◌∷◌, ◌++◌, ◌≡◌, length, get_or}
 use Rattle.queue.specs.Ring.{places, size, empty_ring, waiting_in, entries, oldest_in, without_oldest, put_ring, put_bytes, Sendable}
 use Rattle.queue.specs.declared.Ring.{Ring}
 

@@ -34,7 +34,7 @@ use Rattle.rules.specs.declared.answer.Answer.{Answer}
 use Rattle.rules.specs.declared.answer.Answer.TheVariants.{Handled, OutOfRange, ClockBack, NoRule, BadLength, QueueFull, Malformed, NotAwaited, StartFailed, Old, Lost, Late, Silent, Gap, NoRoom}
 use Rattle.rules.specs.declared.act.Event.{Event}
 use Rattle.rules.specs.declared.act.Act.{Act}
-use Rattle.rules.specs.declared.act.Act.TheVariants.{Stay, Note, Move, Start, Hear, Say}
+use Rattle.rules.specs.declared.act.Act.TheVariants.{Stay, Move, Start, Hear, Say}
 use Rattle.rules.specs.declared.act.ConnectionMove.{ConnectionMove}
 use Rattle.rules.specs.declared.act.ConnectionMove.TheVariants.{Ask, Accept, Lose, Fall}
 use Rattle.rules.specs.declared.act.Exchange.{Exchange}

@@ -9,7 +9,7 @@ use lib.Dec.{lit≤}
 use lib.ListN.{length}
 use Rattle.wire.proofs.Carrying.{carried_is}
 use Rattle.wire.proofs.Over.{whole_length, with_room}
-use Rattle.wire.specs.Message.{encode, longest, body_bytes, kind_of}
+use Rattle.wire.specs.Message.{encode, body_bytes, kind_of}
 use Rattle.wire.specs.Writing.{over, written, written_count, carries}
 use Rattle.wire.specs.declared.message.Body.{Body}
 use Rattle.wire.specs.declared.message.Body.TheVariants.{OffsetStart, OffsetAnsw1, OffsetAnsw2, OffsetEst, OffsetEnd, LifeSign, TrainData}

@@ -1,16 +1,15 @@
 -- Where the table's condition of an answer holds, that answer is given: the tests of the rules lead to it.
 use Prim.Native.Nat.{ℕ, ◌+◌, ◌-◌, ◌^◌, ◌≤◌, ◌<◌}
 use native.Mathlib.Omega.{arith}
-use mathlib.Core.Bool.{Bool, true, false, not, cond, ◌&&◌, and-eq-true_iff, false≢true}
+use mathlib.Core.Bool.{Bool, true, false, not, cond, and-eq-true_iff, false≢true}
 use mathlib.Core.List.{List}
 use mathlib.Core.Logic.{◌⊎◌, inl, inr, ⊎_elim}
-use mathlib.Core.Path.{◌≡◌, refl, sym, ap, ap₂, subst, ◌∙◌}
+use mathlib.Core.Path.{◌≡◌, refl, sym, ap, ◌∙◌}
 use mathlib.Mathlib.Data.Bool.Basic.{eq-false_of_not-eq-true}
 use borrow.Author.Tests.{le-leb, lt-leb, le-ltb, lt-ltb, eq-eqb, ne_eqb, leb-true, leb-false, eqb-true, eqb-false}
-use lib.Dec.{leb, ltb, eqb}
+use lib.Dec.{ltb, eqb}
 use lib.ListN.{length}
 use Rattle.judge.specs.Clock.{since_of, same_of, narrow_of, offsets_by, spread_of, opposed_of}
-use Rattle.judge.specs.Difference.{diff}
 use Rattle.judge.specs.Sequence.{class_at}
 use Rattle.judge.specs.declared.clock.Reading.{Reading}
 use Rattle.judge.specs.declared.sequence.Class.{Class}
@@ -18,7 +17,7 @@ use Rattle.judge.specs.declared.sequence.Class.TheVariants.{Expected, Gap, Lost,
 use Rattle.queue.specs.Ring.{places, waiting_in}
 use Rattle.wire.proofs.Carrying.{is_carried, not_carried}
 use Rattle.wire.proofs.Tests.{by_test}
-use Rattle.wire.specs.Message.{parse, kind_of, longest}
+use Rattle.wire.specs.Message.{parse, kind_of}
 use Rattle.wire.specs.declared.message.Header.{Header}
 use Rattle.wire.specs.declared.message.Body.{Body}
 use Rattle.wire.specs.declared.message.Body.TheVariants.{OffsetStart, OffsetAnsw1, OffsetAnsw2, OffsetEst, OffsetEnd, LifeSign, TrainData}
@@ -26,9 +25,9 @@ use Rattle.wire.specs.declared.message.Message.{Message}
 use Rattle.wire.specs.declared.message.Parsed.{Parsed}
 use Rattle.wire.specs.declared.message.Parsed.TheVariants.{WellFormed}
 use Rattle.rules.specs.State.{phase_of, awaited_by}
-use Rattle.rules.specs.Living.{overdue, in_time, on_connect, on_disconnect, on_confirm, on_idle_tick, may_ask}
-use Rattle.rules.specs.Starting.{measures, next_for, in_turn, on_answer1, on_answer2, on_estimate}
-use Rattle.rules.specs.Hearing.{ahead_for, class_for, age_for, fresh_for, failed_after, on_failure, on_age, on_class, on_up_message, on_awaited, on_parsed, on_message}
+use Rattle.rules.specs.Living.{in_time, on_connect, on_disconnect, on_confirm, on_idle_tick, may_ask}
+use Rattle.rules.specs.Starting.{measures, in_turn, on_answer1, on_answer2, on_estimate}
+use Rattle.rules.specs.Hearing.{ahead_for, class_for, age_for, fresh_for, on_failure, on_age, on_class, on_up_message, on_awaited, on_parsed, on_message}
 use Rattle.rules.specs.Speaking.{sendable, life_sign_due, on_tick, on_data, on_up_data}
 use Rattle.rules.specs.Decide.{least_room, decide_of, on_event}
 use Rattle.rules.specs.Given.{IsTaken, Overdue, Judged, Reads, InStart, WhileUp, Mismeasured, IsWrong, IsGap, IsLost, IsOld, HasGoodLength, IsOrdinary, IsHandled, HasNoRule, Given}
@@ -37,7 +36,7 @@ use Rattle.rules.specs.Talking.{delivered_answer}
 use Rattle.rules.specs.declared.answer.Answer.{Answer}
 use Rattle.rules.specs.declared.answer.Answer.TheVariants.{Handled, OutOfRange, ClockBack, NoRule, BadLength, QueueFull, Malformed, NotAwaited, StartFailed, Old as old, Lost as lost, Late as late, Silent, Gap as gap, NoRoom}
 use Rattle.rules.specs.declared.act.Event.{Event}
-use Rattle.rules.specs.declared.act.Event.TheVariants.{Tick, Connect, Confirm, Disconnect, Data, Message as message}
+use Rattle.rules.specs.declared.act.Event.TheVariants.{Tick, Confirm, Data, Message as message}
 use Rattle.rules.specs.declared.act.Act.{Act}
 use Rattle.rules.specs.declared.act.Act.TheVariants.{Note, Say}
 use Rattle.rules.specs.declared.act.Speech.TheVariants.{Speak, Hold}
@@ -45,7 +44,6 @@ use Rattle.rules.specs.declared.state.Role.{Role}
 use Rattle.rules.specs.declared.state.Role.TheVariants.{Initiator, Called}
 use Rattle.rules.specs.declared.state.Life.{Life}
 use Rattle.rules.specs.declared.state.Life.TheVariants.{Idle, Calling, Opening, Settling, Greeted, Answering, Closing, Up}
-use Rattle.rules.specs.declared.state.Phase.{Phase}
 use Rattle.rules.specs.declared.state.Phase.TheVariants.{Starting as starting}
 use Rattle.rules.specs.declared.state.End.{End}
 use Rattle.rules.proofs.Given.{overdue_in_lem, is_overdue, kind_some}

@@ -1,45 +1,41 @@
 -- Each answer is given exactly when the table says: what it is given for, by the grounds of its act; and what it must be, by the tests.
-use Prim.Native.Nat.{ℕ, ◌+◌, ◌-◌, ◌^◌, ◌≤◌, ◌<◌}
+use Prim.Native.Nat.{ℕ, ◌-◌, ◌^◌, ◌≤◌, ◌<◌}
 use native.Mathlib.Omega.{arith}
-use mathlib.Core.Bool.{Bool, true, false, not, cond, ◌&&◌, ◌||◌, and-eq-true_iff, false≢true}
+use mathlib.Core.Bool.{Bool, true, false, not, cond, ◌&&◌, and-eq-true_iff, false≢true}
 use mathlib.Core.List.{List}
 use mathlib.Core.Logic.{◌⊎◌, inl, inr, ⊎_elim}
 use mathlib.Core.Path.{◌≡◌, refl, sym, ap, subst, ◌∙◌}
-use borrow.Author.Tests.{le-leb, lt-leb, le-ltb, lt-ltb, leb-true, leb-false, ltb-true, ltb-false, eqb-true, eqb-false, eq-eqb, ne_eqb}
-use lib.Dec.{leb, ltb, eqb}
+use borrow.Author.Tests.{le-leb, leb-true, leb-false, ltb-true, ltb-false, eqb-true, eqb-false, eq-eqb, ne_eqb}
+use lib.Dec.{leb, eqb}
 use lib.ListN.{length}
-use Rattle.judge.specs.Clock.{since_of, back_of, passed_of, opposed_of, same_of, narrow_of, offsets_by, spread_of}
+use Rattle.judge.specs.Clock.{since_of, passed_of, same_of, narrow_of, offsets_by, spread_of}
 use Rattle.judge.specs.Difference.{diff}
 use Rattle.judge.specs.Sequence.{class_at}
 use Rattle.judge.specs.declared.clock.Reading.{Reading}
-use Rattle.judge.specs.declared.clock.Offset.{Offset}
 use Rattle.judge.specs.declared.sequence.Class.{Class}
 use Rattle.judge.specs.declared.sequence.Class.TheVariants.{Expected, Gap, Lost, Old}
 use Rattle.queue.specs.Ring.{places, waiting_in}
 use Rattle.wire.proofs.Carrying.{carried_is, is_carried}
 use Rattle.wire.proofs.Tests.{by_test}
-use Rattle.wire.specs.Message.{parse, kind_of, longest}
+use Rattle.wire.specs.Message.{kind_of}
 use Rattle.wire.specs.declared.message.Header.{Header}
 use Rattle.wire.specs.declared.message.Body.{Body}
 use Rattle.wire.specs.declared.message.Body.TheVariants.{OffsetStart, OffsetAnsw1, OffsetAnsw2, OffsetEst, OffsetEnd, LifeSign, TrainData}
-use Rattle.wire.specs.declared.message.Message.{Message}
-use Rattle.wire.specs.declared.message.Parsed.{Parsed}
-use Rattle.wire.specs.declared.message.Parsed.TheVariants.{WellFormed}
 use Rattle.rules.specs.State.{phase_of, awaited_by}
-use Rattle.rules.specs.Living.{overdue, overdue_in, in_time}
-use Rattle.rules.specs.Starting.{measures, next_for}
+use Rattle.rules.specs.Living.{overdue, overdue_in}
+use Rattle.rules.specs.Starting.{measures}
 use Rattle.rules.specs.Hearing.{ahead_for, class_for, age_for, fresh_for}
 use Rattle.rules.specs.Speaking.{sendable}
-use Rattle.rules.specs.Decide.{least_room, decide_of, on_event}
-use Rattle.rules.specs.Given.{IsTaken, Overdue, Judged, Reads, InStart, WhileUp, Mismeasured, IsWrong, IsGap, IsLost, IsOld, HasGoodLength, IsOrdinary, Given}
+use Rattle.rules.specs.Decide.{least_room, decide_of}
+use Rattle.rules.specs.Given.{IsTaken, Overdue, Judged, Reads, InStart, WhileUp, Mismeasured, IsWrong, IsGap, IsLost, IsOld, HasGoodLength, Given}
 use Rattle.rules.specs.Perform.{performed}
-use Rattle.rules.specs.Talking.{delivered_answer, has_gap}
+use Rattle.rules.specs.Talking.{delivered_answer}
 use Rattle.rules.specs.declared.answer.Answer.{Answer}
-use Rattle.rules.specs.declared.answer.Answer.TheVariants.{Handled, NoRule, Malformed, NotAwaited, StartFailed, Silent, Gap as gap, Late as late, Old as old, Lost as lost}
+use Rattle.rules.specs.declared.answer.Answer.TheVariants.{Handled, NotAwaited, StartFailed, Silent, Late as late, Old as old, Lost as lost}
 use Rattle.rules.specs.declared.act.Event.{Event}
-use Rattle.rules.specs.declared.act.Event.TheVariants.{Tick, Connect, Confirm, Disconnect, Data, Message as message}
+use Rattle.rules.specs.declared.act.Event.TheVariants.{Tick, Confirm, Data, Message as message}
 use Rattle.rules.specs.declared.act.Act.{Act}
-use Rattle.rules.specs.declared.act.Act.TheVariants.{Stay, Note, Move, Start, Hear, Say}
+use Rattle.rules.specs.declared.act.Act.TheVariants.{Stay, Move, Start, Hear, Say}
 use Rattle.rules.specs.declared.act.Delivery.{Delivery}
 use Rattle.rules.specs.declared.act.ConnectionMove.{ConnectionMove}
 use Rattle.rules.specs.declared.act.ConnectionMove.TheVariants.{Ask, Accept, Lose, Fall}
@@ -55,12 +51,12 @@ use Rattle.rules.specs.declared.state.Phase.{Phase}
 use Rattle.rules.specs.declared.state.Phase.TheVariants.{Starting as starting}
 use Rattle.rules.specs.declared.state.End.{End}
 use Rattle.rules.proofs.Acts.{EachTaken, by_act}
-use Rattle.rules.proofs.Grounds.{Timely, Listening, Heard, Next, Upright, InReach, Mismatch, Failure, Fallen, NoteGrounds, MoveGrounds, ExchangeGrounds, VerdictGrounds, SpeechGrounds, StayGrounds, IsTaken as Taken, body_of}
+use Rattle.rules.proofs.Grounds.{Timely, Heard, Next, Upright, InReach, Mismatch, Failure, Fallen, NoteGrounds, MoveGrounds, ExchangeGrounds, VerdictGrounds, SpeechGrounds, StayGrounds, IsTaken as Taken, body_of}
 use Rattle.rules.proofs.Grounds.NoteGrounds.{idle_tick, starting_tick, connect_to_initiator, disconnect_at_rest, confirm_unasked, message_unawaited, data_too_early, bad_length, queue_full, malformed, other_kind, out_of_turn}
 use Rattle.rules.proofs.Grounds.Failure.{is_old, is_late}
 use Rattle.rules.proofs.Grounds.Fallen.{by_silence, by_start, by_loss, by_failure}
 use Rattle.rules.proofs.Grounds.StayGrounds.{no_room, went_back}
-use Rattle.rules.proofs.Lives.{apart, starting_low}
+use Rattle.rules.proofs.Lives.{apart}
 
 -- one of two tests fails
 either_fails : (x y : Bool) → x && y ≡ false → (x ≡ false) ⊎ (y ≡ false)

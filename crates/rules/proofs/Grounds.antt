@@ -28,7 +28,6 @@ use Rattle.rules.specs.declared.answer.Answer.{Answer}
 use Rattle.rules.specs.declared.answer.Answer.TheVariants.{Handled, ClockBack, NoRule, BadLength, QueueFull, Malformed, NotAwaited, StartFailed, Old as old, Lost as lost, Late as late, Silent, NoRoom}
 use Rattle.rules.specs.declared.act.Event.{Event}
 use Rattle.rules.specs.declared.act.Event.TheVariants.{Tick, Connect, Confirm, Disconnect, Data, Message as message}
-use Rattle.rules.specs.declared.act.Delivery.{Delivery}
 use Rattle.rules.specs.declared.act.ConnectionMove.{ConnectionMove}
 use Rattle.rules.specs.declared.act.ConnectionMove.TheVariants.{Ask, Accept, Lose, Fall}
 use Rattle.rules.specs.declared.act.Exchange.{Exchange}

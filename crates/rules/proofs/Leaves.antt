@@ -1,23 +1,21 @@
 -- The claims of specs/Leaves.antt, by going through the acts.
-use Prim.Native.Nat.{ℕ, ◌+◌, ◌-◌}
-use mathlib.Core.Bool.{Bool, true, false, cond, not}
+use Prim.Native.Nat.{ℕ, ◌+◌}
+use mathlib.Core.Bool.{Bool, true, false}
 use mathlib.Core.List.{List}
-use mathlib.Core.Logic.{◌⊎◌, inl, inr, ⊎_elim}
+use mathlib.Core.Logic.{⊎_elim}
 use mathlib.Core.Path.{◌≡◌, refl, sym, ap, subst, ◌∙◌}
-use lib.Dec.{ltb, eqb}
+use lib.Dec.{ltb}
 use lib.ListN.{length}
 use Rattle.judge.specs.declared.clock.Reading.{Reading}
 use Rattle.rules.specs.Answers.{leaves_of, Leaving}
 use Rattle.rules.specs.Answers.Leaving.{as_ruled, no_end, everything, new_reading, down, error_report, delivered}
-use Rattle.rules.specs.Decide.{decide_of}
-use Rattle.rules.specs.Leaves.{Left, LeavesAsTheTableSays, ReadingMoves, reading_left, went_down, counted_one}
+use Rattle.rules.specs.Leaves.{Left, LeavesAsTheTableSays, ReadingMoves, reading_left, went_down}
 use Rattle.rules.specs.Perform.{performed}
 use Rattle.rules.specs.Place.{queue_after}
 use Rattle.rules.specs.Talking.{has_gap, delivered_answer, delivering}
 use Rattle.wire.proofs.Tests.{by_test}
 use Rattle.rules.specs.Step.{Result, result_of, effect_of, stepped}
 use Rattle.rules.specs.declared.answer.Answer.{Answer}
-use Rattle.rules.specs.declared.answer.Answer.TheVariants.{Handled, Gap}
 use Rattle.rules.specs.declared.act.Event.{Event}
 use Rattle.rules.specs.declared.act.Act.{Act}
 use Rattle.rules.specs.declared.act.Act.TheVariants.{Stay, Note, Move, Start, Hear, Say}
@@ -33,8 +31,8 @@ use Rattle.rules.specs.declared.act.Speech.TheVariants.{Quiet, Beat, Speak, Drai
 use Rattle.rules.specs.declared.state.Life.TheVariants.{Up}
 use Rattle.rules.specs.declared.state.End.{End}
 use Rattle.rules.proofs.Acts.{EachTaken, by_act}
-use Rattle.rules.proofs.Answered.{stay_leaves, note_leaves, failure_leaves, fall_leaves}
-use Rattle.rules.proofs.Grounds.{StayGrounds, Heard, NoteGrounds, MoveGrounds, VerdictGrounds, Failure, Fallen, body_of}
+use Rattle.rules.proofs.Answered.{stay_leaves, note_leaves, failure_leaves}
+use Rattle.rules.proofs.Grounds.{StayGrounds, Heard, NoteGrounds, MoveGrounds, VerdictGrounds, Fallen, body_of}
 use Rattle.rules.proofs.Grounds.Fallen.{by_silence, by_start, by_loss, by_failure}
 
 -- where an entry of the last column is known, what it says is to be shown of it

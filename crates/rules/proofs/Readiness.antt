@@ -2,22 +2,20 @@
 use Prim.Native.Nat.{ℕ, ◌≤◌}
 use mathlib.Core.Bool.{Bool, true, false}
 use mathlib.Core.List.{List, []}
-use mathlib.Core.Path.{◌≡◌, refl, ap}
+use mathlib.Core.Path.{refl, ap}
 use Rattle.judge.specs.declared.clock.Reading.{Reading}
 use Rattle.wire.proofs.Carrying.{carried_is}
 use Rattle.wire.proofs.Parsing.{reads_carried}
 use Rattle.wire.specs.Message.{train_in}
 use Rattle.wire.specs.Writing.{carries}
 use Rattle.wire.specs.declared.message.Body.{Body}
-use Rattle.wire.specs.declared.message.Body.TheVariants.{TrainData}
 use Rattle.wire.specs.declared.message.Header.{Header}
 use Rattle.rules.specs.Decide.{least_room}
 use Rattle.rules.specs.declared.act.Event.{Event}
 use Rattle.rules.specs.declared.act.Act.{Act}
-use Rattle.rules.specs.declared.act.Act.TheVariants.{Stay, Note, Move, Start, Hear, Say}
+use Rattle.rules.specs.declared.act.Act.TheVariants.{Stay, Move, Start, Hear, Say}
 use Rattle.rules.specs.declared.act.Swap.{Swap}
 use Rattle.rules.specs.declared.act.Measurement.{Measurement}
-use Rattle.rules.specs.declared.act.Delivery.{Delivery}
 use Rattle.rules.specs.declared.act.ConnectionMove.{ConnectionMove}
 use Rattle.rules.specs.declared.act.ConnectionMove.TheVariants.{Ask, Accept, Lose, Fall}
 use Rattle.rules.specs.declared.act.Exchange.{Exchange}

@@ -1,7 +1,6 @@
 -- The messages of the clock start go out, and lives begin.
 use Rattle.judge.specs.declared.clock.Reading.{Reading}
 use Rattle.wire.specs.declared.message.Body.{Body}
-use Rattle.wire.specs.declared.message.Header.{Header}
 use Rattle.wire.specs.declared.message.Message.{Message}
 use Rattle.rules.specs.Line.{with_offsets, with_began, accepted_line, posted_line, sent_line, risen_line, header_by}
 use Rattle.rules.specs.Ends.{moved_end, no_flags, up_flag}

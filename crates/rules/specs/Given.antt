@@ -1,6 +1,6 @@
 -- When the link says no: for each answer its condition, as docs/RULES.md has it. The order in which the rules test is not looked at here:
 -- each condition stands by itself, and no two of them hold at once.
-use Rattle.std.specs.Prelude.{ℕ, ◌^◌, ◌≤◌, ◌<◌, true, false, List, ◌⊎◌, ◌≡◌, length}
+use Rattle.std.specs.Prelude.{ℕ, ◌^◌, ◌≤◌, ◌<◌, true, List, ◌⊎◌, ◌≡◌, length}
 use Rattle.judge.specs.Clock.{since_of, offsets_by, spread_of}
 use Rattle.judge.specs.Difference.{diff}
 use Rattle.judge.specs.declared.clock.Reading.{Reading}

@@ -1,5 +1,5 @@
 -- Hearing and saying while Up.
-use Rattle.std.specs.Prelude.{ℕ, ◌+◌, Bool, true, false, cond, not, eqb}
+use Rattle.std.specs.Prelude.{◌+◌, Bool, true, false, cond, not, eqb}
 use Rattle.judge.specs.declared.clock.Reading.{Reading}
 use Rattle.queue.specs.Ring.{waiting_in, without_oldest}
 use Rattle.queue.specs.declared.Ring.{Ring}

@@ -1,6 +1,4 @@
 -- From "for each act, from its grounds" to "for each call of a run".
-use Prim.Native.Nat.{ℕ}
-use mathlib.Core.List.{List}
 use lib.ListN.{length}
 use Rattle.rules.specs.Perform.{performed}
 use Rattle.rules.specs.Step.{result_of, effect_of, stepped}

@@ -1,6 +1,6 @@
 -- Laws of the words for one event: what a test on it says.
 use Prim.Native.Nat.{ℕ}
-use mathlib.Core.Bool.{true, false, ◌&&◌, and-eq-true_iff, false≢true}
+use mathlib.Core.Bool.{true, and-eq-true_iff, false≢true}
 use mathlib.Core.Path.{◌≡◌, refl, ap₂, ◌∙◌}
 use Rattle.rules.specs.State.{is_up}
 use Rattle.rules.specs.declared.act.Event.{Event}

@@ -8,7 +8,6 @@ use lib.Dec.{leb, ltb}
 use lib.ListN.{length}
 use Rattle.judge.specs.declared.clock.Reading.{Reading}
 use Rattle.queue.proofs.Claims.{put_keeps_length}
-use Rattle.queue.specs.Ring.{size}
 use Rattle.rules.specs.Decide.{decide_of}
 use Rattle.rules.specs.Settings.{in_range_of, between_of, limits_in_range, times_in_range}
 use Rattle.rules.specs.declared.act.Event.{Event}

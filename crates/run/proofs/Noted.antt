@@ -13,7 +13,6 @@ use Rattle.rules.specs.State.{phase_of}
 use Rattle.rules.specs.declared.answer.Answer.{Answer}
 use Rattle.rules.specs.declared.act.Event.{Event}
 use Rattle.rules.specs.declared.act.Event.TheVariants.{Tick, Connect, Confirm, Disconnect, Data, Message}
-use Rattle.rules.specs.declared.state.Role.{Role}
 use Rattle.rules.specs.declared.state.Role.TheVariants.{Initiator}
 use Rattle.rules.specs.declared.state.Life.{Life}
 use Rattle.rules.specs.declared.state.Life.TheVariants.{Idle, Up}

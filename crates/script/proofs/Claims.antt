@@ -14,7 +14,6 @@ use Rattle.wire.proofs.Tests.{by_test}
 use Rattle.script.specs.Forms.{size_in, following}
 use Rattle.script.specs.Lines.{line_room}
 use Rattle.script.specs.Reply.{Held, Reply, reply_to}
-use Rattle.script.specs.Feed.{Input}
 use Rattle.script.specs.Put.{Put}
 use Rattle.script.specs.Script.{and_then, printed_by, printed_from}
 use Rattle.script.specs.Play.{Piece, unfinished, pauses, ended_by, joined, played}

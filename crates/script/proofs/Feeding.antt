@@ -1,13 +1,13 @@
 -- What is printed between two reads, and what is kept: the claim FeedPrints of specs/Claims.antt.
-use Prim.Native.Nat.{ℕ, zero, suc, ◌+◌, ◌-◌, ◌≤◌, ◌<◌}
+use Prim.Native.Nat.{ℕ, zero, suc, ◌+◌, ◌≤◌}
 use native.Mathlib.Omega.{arith}
 use borrow.Author.Tests.{eqb-true}
 use mathlib.Core.Bool.{Bool, true, false, cond, false≢true}
-use mathlib.Core.List.{List, [], ◌∷◌, ◌++◌, append-nil}
+use mathlib.Core.List.{List, [], ◌∷◌, ◌++◌}
 use mathlib.Core.Path.{◌≡◌, refl, ap, sym, subst, ◌∙◌}
 use lib.Dec.{eqb}
 use lib.ListN.{length, length-drop, take, drop}
-use lib.Seq.{sets, sets-eq, slice, take_at, drop-drop}
+use lib.Seq.{sets, sets-eq, take_at, drop-drop}
 use Rattle.script.specs.Lines.{line_room}
 use Rattle.script.specs.Reply.{Held, held_as, reply_to}
 use Rattle.script.specs.Script.{printed_by, printed_from}

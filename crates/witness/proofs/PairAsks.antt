@@ -1,6 +1,6 @@
 -- The run with two asks, computed.
 use native.Mathlib.Omega.{arith}
-use mathlib.Core.Bool.{true, false, false≢true}
+use mathlib.Core.Bool.{false≢true}
 use mathlib.Core.List.{[], ◌∷◌}
 use mathlib.Core.Logic.{inl}
 use mathlib.Core.Path.{refl, ap}

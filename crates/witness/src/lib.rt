@@ -1,3 +1,2 @@
 // Definitions and proofs only: runs that really happen.
 #![tactic(auto)]
-

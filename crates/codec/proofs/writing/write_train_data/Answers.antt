@@ -4,7 +4,7 @@ use Rattle.wire.specs.Message.{header_bytes}
 use Rattle.wire.specs.Writing.{carries}
 use Rattle.wire.specs.declared.message.Body.TheVariants.{TrainData}
 use Rattle.wire.proofs.Tests.{by_test}
-use Rattle.wire.proofs.Carrying.{is_carried, not_carried}
+use Rattle.wire.proofs.Carrying.{is_carried}
 use Rattle.wire.proofs.Over.{no_room, with_room, whole_length, header_length, part_over}
 use Rattle.codec.proofs.writing.write_train_data.Goals as goal
 
@@ -32,6 +32,6 @@ returns-clause-out_after c =
     let b = 3 ∷ c.args.train.now in
     let w = with_room (header_bytes c.args.kind c.args.h ++ b) c.args.out.now _ (whole_length c.args.kind c.args.h b) (search rules) in
     rw (is_carried c.args.train.now (omega arith) (omega arith)) (
-      part_over (header_bytes c.args.kind c.args.h) b c.args.out.now c.put_header.new.out c.put_train_data.new.part 15 (header_length c.args.kind c.args.h) c.put_header.ensures c.put_train_data.ensures
-      ∙ w.1
+    part_over (header_bytes c.args.kind c.args.h) b c.args.out.now c.put_header.new.out c.put_train_data.new.part 15 (header_length c.args.kind c.args.h) c.put_header.ensures c.put_train_data.ensures
+    ∙ w.1
     )

@@ -1,6 +1,5 @@
 -- An offset holds the difference that wrapping subtraction gives.
-use Rattle.std.proofs.Common.{ap, rules}
-use Rattle.judge.specs.declared.clock.Offset.{Offset}
+use Rattle.std.proofs.Common.{rules}
 use Rattle.judge.proofs.Difference.{wraps}
 use Rattle.judge.proofs.clock.offset_of.Goals as goal
 

@@ -1,5 +1,5 @@
 -- One more byte is moved in each turn.
-use Rattle.std.proofs.Common.{refl, rules}
+use Rattle.std.proofs.Common.{rules}
 use Rattle.player.proofs.Moving.{one_moved}
 use Rattle.player.proofs.feed.to_front_within.Goals as goal
 

@@ -1,6 +1,6 @@
 -- At the end nothing is left to put.
 use Rattle.std.proofs.Common.{rules}
-use Rattle.player.proofs.Puts.{hex_next, hex_done}
+use Rattle.player.proofs.Puts.{hex_done}
 use Rattle.player.proofs.text.put_hex.Goals as goal
 
 pub returns : goal.returns
