@@ -1,12 +1,12 @@
 """The one command: what ./demo plays and refuses, and what it shows while the program is proved and built.
 
-The kit is a made-up one: its rt prints what a test wants, and its loader runs a program that is a script.
+The kit is a made-up one: its rt prints what a test wants, and the program that it has built is a script.
 """
 
 import os
 import pathlib
-import platform
 import pty
+import re
 import shutil
 import subprocess
 import tempfile
@@ -22,17 +22,28 @@ wire: judge
 sunday: wire judge io libc
 other: judge
 """
-UNCHANGED = "".join(f"rt: {name} proved (unchanged since it was last proved)\n" for name in ("judge", "wire", "sunday"))
+RUNNING = "rt: running out/sunday; to give it other input, run that file yourself\n"
+UNCHANGED = f"rt: nothing has changed since the last proved build, by out/sunday.stamp, so nothing is checked now\n{RUNNING}"
+LAST = "functions=3 sum=5 native=nat\n"
 RT = """#!/bin/sh
-# Prints what the file rt-says has, and waits or ends where it says so.
+# Says what the file rt-says has, waits or ends where that says so, and then prints what the file rt-prints has.
+# As the real one it runs in the folder of the program's crate.
+kit=$(dirname "$(dirname "$0")")
+[ "$*" = run ] && [ "${PWD##*/}" = sunday ] && [ -f src/main.rt ] || exit 2
 while IFS= read -r line; do
     case $line in
-        wait) while [ ! -e "$RATTLE_HOME/go" ]; do sleep 0.1; done ;;
+        wait) while [ ! -e "$kit/go" ]; do sleep 0.1; done ;;
         "exit "*) exit "${line#exit }" ;;
-        *) echo "$line" ;;
+        *) echo "$line" >&2 ;;
     esac
-done <"$RATTLE_HOME/rt-says"
+done <"$kit/rt-says"
+if [ -e "$kit/rt-prints" ]; then cat "$kit/rt-prints"; fi
 """
+
+
+def proved(name, more=""):
+    """What rt says of a crate that it proves; more comes while it is at work."""
+    return f"rt: chose --jobs 2 for {name}\n{more}fn {name}::it: proved\ncrate {name}: modules loaded=0 checked=4\nlogic=proved {LAST}"
 
 
 class Place(unittest.TestCase):
@@ -47,13 +58,11 @@ class Place(unittest.TestCase):
         shutil.copy(support.TOP / "demo", self.top)
         self.put(self.top / "crates.txt", CRATES)
         self.put(self.top / "crates/sunday/src/main.rt", "")
-        lib = self.kit / "on" / platform.machine() / "toolchain" / "lib"
-        self.put(lib / "ld-linux-x86-64.so.2", '#!/bin/sh\nshift 2\nexec "$@"\n')
         self.put(self.kit / "bin/rt", RT)
         self.put(self.kit / "rt-says", UNCHANGED)
         self.lines = run(["lines", str(support.TOP / "scenes" / "story.txt")])[1]
         self.put(self.top / "lines", self.lines)
-        self.put(self.top / "target/bin/sunday", f"#!/bin/sh\nexec cat '{self.top}/lines'\n")
+        self.put(self.top / "crates/sunday/out/sunday", f"#!/bin/sh\nexec cat '{self.top}/lines'\n")
 
     @staticmethod
     def put(path, text):
@@ -63,8 +72,8 @@ class Place(unittest.TestCase):
 
     def environment(self, **more):
         path = f"{self.kit / 'bin'}{os.pathsep}{os.environ['PATH']}"
-        plain = {name: value for name, value in os.environ.items() if name != "PLAYER"}
-        return {**plain, "RATTLE_HOME": str(self.kit), "PATH": path, **more}
+        plain = {name: value for name, value in os.environ.items() if name not in ("PLAYER", "JUST_PROVED")}
+        return {**plain, "PATH": path, **more}
 
     def demo(self, *words, **more):
         return subprocess.run(["./demo", *words], cwd=self.top, env=self.environment(**more), capture_output=True,
@@ -151,18 +160,37 @@ class Progress(Place):
         self.assertEqual((done.returncode, done.stderr), (0, ""))
 
     def test_each_crate_that_is_proved(self):
-        self.put(self.kit / "rt-says", "rt: judge proved (unchanged since it was last proved)\nlogic=proved x\n"
-                 "rt: wire proved (41 s)\nrt: sunday proved (7 s)\n"
-                 "rt: sunday ran as nobody, and wrote what its file 'stdout' has (2 s)\nrt: ok, 3 crates proved\n")
+        self.put(self.kit / "rt-says", "only=0 proved=0\n" + proved("wire") + proved("sunday") + RUNNING)
         done = self.demo()
         self.assertEqual(done.returncode, 0)
-        said = done.stderr.splitlines()
-        self.assertEqual(said[:-1], [
+        said = [re.sub(r"\d+ s", "N s", line) for line in done.stderr.splitlines()]
+        self.assertEqual(said, [
             "sunday is proved and built first. That takes some minutes; later it starts at once.",
-            "  2 of 3: wire proved (41 s)", "  3 of 3: sunday proved (7 s)",
-            "  sunday built, and it wrote what it must (2 s)"])
-        self.assertRegex(said[-1], r"^  that took \d+ s$")
+            "  2 of 3: wire proved (N s)", "  3 of 3: sunday proved (N s)", "  sunday built", "  that took N s"])
         self.assertIn("late: age 403 ticks", done.stdout)
+
+    def test_what_it_wrote_is_held_against_its_file(self):
+        self.put(self.top / "crates/sunday/stdout", "0\n0 ask\n")
+        self.put(self.kit / "rt-prints", "0\n0 ask\n")
+        self.assertEqual(self.demo().returncode, 0)
+        self.put(self.kit / "rt-prints", "0\n")
+        done = self.demo()
+        self.assertEqual((done.returncode, done.stdout), (1, ""))
+        self.assertIn("it wrote something else than its file stdout has\n", done.stderr)
+
+    def test_what_the_gate_has_built(self):
+        self.put(self.kit / "rt-says", "exit 1\n")
+        self.assertEqual(self.demo().returncode, 1)
+        done = self.demo(JUST_PROVED="yes")
+        self.assertEqual((done.returncode, done.stderr), (0, ""))
+        (self.top / "crates/sunday/out/sunday").unlink()
+        self.assertEqual(self.demo(JUST_PROVED="yes").returncode, 1)
+
+    def test_what_rt_waits_for(self):
+        self.put(self.kit / "rt-says", "rt: waiting for another rt to finish in crates/judge\n" + UNCHANGED)
+        done = self.demo()
+        self.assertEqual(done.returncode, 0)
+        self.assertIn("\n  waiting for another rt to finish in crates/judge\n", done.stderr)
 
     def let_go_at_last(self):
         """Lets rt go on after a while, so that a test that waits for nothing comes to an end."""
@@ -172,19 +200,19 @@ class Progress(Place):
 
     def test_it_is_told_as_it_comes(self):
         """A line of rt is told while rt has still to say the next."""
-        self.put(self.kit / "rt-says", "rt: judge proved (9 s)\nwait\nrt: wire proved (1 s)\n")
+        self.put(self.kit / "rt-says", proved("judge") + "wait\n" + proved("wire") + RUNNING)
         self.let_go_at_last()
         process = subprocess.Popen(["./demo"], cwd=self.top, env=self.environment(), stdout=subprocess.PIPE,
                                    stderr=subprocess.PIPE, text=True)
         with process:
             process.stderr.readline()
-            self.assertEqual(process.stderr.readline(), "  1 of 3: judge proved (9 s)\n")
+            self.assertRegex(process.stderr.readline(), r"^  1 of 3: judge proved \(\d+ s\)\n$")
             self.assertFalse((self.kit / "go").exists())
             (self.kit / "go").touch()
-            self.assertEqual(process.stderr.readline(), "  2 of 3: wire proved (1 s)\n")
+            self.assertRegex(process.stderr.readline(), r"^  2 of 3: wire proved \(\d+ s\)\n$")
 
     def test_whoever_watches_sees_the_seconds(self):
-        self.put(self.kit / "rt-says", UNCHANGED.partition("\n")[0] + "\nwait\n" + UNCHANGED)
+        self.put(self.kit / "rt-says", proved("wire", more="wait\n") + RUNNING)
         self.let_go_at_last()
         ours, theirs = pty.openpty()
         process = subprocess.Popen(["./demo"], cwd=self.top, env=self.environment(PATIENCE="1"),
@@ -192,19 +220,21 @@ class Progress(Place):
         os.close(theirs)
         shown = ""
         with process, open(ours, "rb", buffering=0) as screen:
-            while "crate" not in shown and not (self.kit / "go").exists():
+            while "crate " not in shown and not (self.kit / "go").exists():
                 shown += screen.read(4096).decode()
             (self.kit / "go").touch()
             process.wait()
-        self.assertRegex(shown, r"^sunday is proved and built first\.[^\n]*\n\r\x1b\[K  crate 2 of 3, \d+ s")
+        self.assertRegex(shown, r"^sunday is proved and built first\.[^\n]*\n\r\x1b\[K  crate 2 of 3, wire, \d+ s")
         self.assertEqual(process.returncode, 0)
 
     def test_what_is_not_proved(self):
-        self.put(self.kit / "rt-says", "rt: judge NOT PROVED (exit 1, 5 s)\nrt: FAILED: judge\nexit 1\n")
+        self.put(self.kit / "rt-says", "rt: chose --jobs 2 for judge\nfn judge::it: not proved\nlogic=not-proved " + LAST
+                 + "rt: the library judge did not build, so nothing above it was checked\nexit 1\n")
         done = self.demo()
         self.assertEqual((done.returncode, done.stdout), (1, ""))
         self.assertIn("  judge was not proved\n", done.stderr)
-        self.assertIn("rt: FAILED: judge\ntools/program: sunday was not proved and built\n", done.stderr)
+        self.assertIn("rt: the library judge did not build, so nothing above it was checked\n"
+                      "tools/program: sunday was not proved and built\n", done.stderr)
 
     def test_no_kit(self):
         (self.kit / "bin/rt").unlink()
