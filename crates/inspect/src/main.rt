@@ -8,27 +8,27 @@
 mod hex;
 mod show;
 
-fn main() {
-    let mut input = io::large_buffer();
+use std::io;
+use std::io::Read;
+
+fn main(rt: HostRuntime) -> io::Result<()> {
+    let mut stdin = rt.stdin();
+    let mut input = [0u8; 65536];
     let mut bytes = [0u8; 256];
     let mut line = hex::fresh();
-    let mut turns: u64 = 0;
-    while turns < u64::MAX {
-        turns += 1;
-        let got = io::read_full(0, &mut input);
+    for _ in 0..u64::MAX {
+        let got = stdin.read(&mut input)?;
         if got == 0 {
-            return;
+            return Ok(());
         }
-        let mut i = 0;
-        while i < got {
-            let c = input[i];
-            i += 1;
-            if c == 10 {
-                show::show(line, &bytes);
+        for c in &input[..got] {
+            if *c == 10 {
+                show::show(&rt, line, &bytes)?;
                 line = hex::fresh();
             } else {
-                line = hex::feed(line, c, &mut bytes);
+                line = hex::feed(line, *c, &mut bytes);
             }
         }
     }
+    Ok(())
 }

@@ -1,11 +1,12 @@
 // A message as a row of numbers, printed.
-ghost use Rattle.std.specs.Prelude.{◌≡◌, length};
+ghost use Rattle.std.specs.Prelude.{◌≡◌, length, IfOk};
 ghost use Rattle.wire.specs.Message.{parse};
 ghost use Rattle.inspect.specs.Row.{row, row_of, count_of, told};
 
 use crate::hex::Line;
 use codec::kind::kind_of;
 use codec::reading::{read_message, train_data};
+use std::io;
 use wire::message::{Body, Header, Parsed};
 
 #[derive(Clone, Copy)]
@@ -50,81 +51,77 @@ fn row_of(h: Header, body: Body) -> Row
 }
 
 // Prints how the bytes of a line read, and answers how many numbers that took.
-pub fn show(l: Line, bytes: &[u8]) -> usize
-    ensures { result ≡ told l bytes.now }
+pub fn show(rt: &impl Print, l: Line, bytes: &[u8]) -> io::Result<usize>
+    ensures { IfOk result (λ count. count ≡ told l bytes.now) }
 {
     let n = l.len;
     if l.bad {
-        io::write_all(1, b"not hexadecimal\n");
-        return 0;
+        println!(rt; "not hexadecimal")?;
+        return Ok(0);
     }
     if l.odd {
-        io::write_all(1, b"half a byte\n");
-        return 0;
+        println!(rt; "half a byte")?;
+        return Ok(0);
     }
     if bytes.len() < n {
-        return 0;
+        return Ok(0);
     }
     if n == 0 {
         if l.note {
-            return 0;
+            return Ok(0);
         }
     }
-    show_message(&bytes[..n])
+    show_message(rt, &bytes[..n])
 }
 
-fn show_message(s: &[u8]) -> usize
-    ensures { result ≡ count_of (parse s.now) }
+fn show_message(rt: &impl Print, s: &[u8]) -> io::Result<usize>
+    ensures { IfOk result (λ count. count ≡ count_of (parse s.now)) }
 {
     let parsed = read_message(s);
     match parsed {
         Parsed::WellFormed(m) => {
             let h = m.header;
             let body = m.body;
-            let n = show_row(row_of(h, body));
+            let n = show_row(rt, row_of(h, body))?;
             if n == 6 {
-                show_hex(train_data(s));
+                show_hex(rt, train_data(s))?;
             }
-            io::write_all(1, b"\n");
-            n
+            println!(rt; "")?;
+            Ok(n)
         }
         Parsed::Malformed => {
-            io::write_all(1, b"malformed\n");
-            0
+            println!(rt; "malformed")?;
+            Ok(0)
         }
     }
 }
 
 // Prints the numbers of a row that count, and answers how many that is.
-fn show_row(r: Row) -> usize
-    ensures { result ≡ r.count }
+fn show_row(rt: &impl Print, r: Row) -> io::Result<usize>
+    ensures { IfOk result (λ count. count ≡ r.count) }
 {
     let values = r.values;
     let n = r.count;
-    let mut i = 0;
-    while i < 7 {
+    for i in 0..7 {
         if i < n {
             if 0 < i {
-                io::write_all(1, b" ");
+                print!(rt; " ")?;
             }
-            io::print_decimal(1, values[i] as u64);
+            rt.print(values[i])?;
         }
-        i += 1;
     }
-    n
+    Ok(n)
 }
 
 // Prints train data after a space, and answers how many bytes they have.
-fn show_hex(train: &[u8]) -> usize
-    ensures { result ≡ length train.now }
+fn show_hex(rt: &impl Print, train: &[u8]) -> io::Result<usize>
+    ensures { IfOk result (λ count. count ≡ length train.now) }
 {
-    let mut i = 0;
-    while i < train.len() {
-        if i == 0 {
-            io::write_all(1, b" ");
-        }
-        io::print_hex(1, train[i] as u64, 2);
-        i += 1;
+    if !train.is_empty() {
+        print!(rt; " ")?;
     }
-    i
+    for byte in train {
+        print!(rt; "{byte:02x}")?;
+    }
+    Ok(train.len())
 }

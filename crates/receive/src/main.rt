@@ -4,6 +4,7 @@
 // and the reading of every event, so that the compiler knows none of them.
 #![tactic(auto)]
 
+mod input;
 mod timed;
 
 use codec::number::{read_u32, write_u16};
@@ -13,17 +14,18 @@ use link::step::step;
 use queue::BYTES;
 use rules::effect::Made;
 use rules::state::Role;
+use std::io;
 
 const EVENTS: u32 = 5000004;
 
-fn main() {
+fn main(rt: HostRuntime) -> io::Result<()> {
     let mut out = [0u8; 128];
     let mut q = [0u8; BYTES];
     let mut input = [0u8; 85];
-    io::read_full(0, &mut input);
+    input::fill(&mut rt.stdin(), &mut input)?;
     let at = Reading(read_u32(&input, 81));
     let Made::Fresh(fresh) = make(Role::Called, at, timed::settings()) else {
-        return;
+        return Ok(());
     };
     let mut end = fresh;
     let mut delivered: u32 = 0;
@@ -45,6 +47,5 @@ fn main() {
         delivered += timed::is_datum(front);
         turn += 1;
     }
-    io::print_decimal(1, delivered as u64);
-    io::write_all(1, b" delivered\n");
+    println!(rt; "{delivered} delivered")
 }

@@ -10,10 +10,15 @@ use queue::BYTES;
 use rules::effect::ROOM;
 use script::reply::Next;
 use script::seat::Seat;
+use std::io;
 
-fn main() {
-    let mut input = io::large_buffer();
-    let mut text = io::large_buffer();
+// How many bytes of the script, and how many of the text, are held at once.
+const LARGE: usize = 65536;
+
+fn main(rt: HostRuntime) -> io::Result<()> {
+    let mut stdin = rt.stdin();
+    let mut input = [0u8; LARGE];
+    let mut text = [0u8; LARGE];
     let mut out = [0u8; ROOM];
     let mut q = [0u8; BYTES];
     let mut seat = Seat::Empty;
@@ -21,9 +26,7 @@ fn main() {
     let mut start = 0;
     let mut end = 0;
     let mut over = false;
-    let mut turns: u64 = 0;
-    while turns < u64::MAX {
-        turns += 1;
+    for _ in 0..u64::MAX {
         let r = feed(
             seat, &mut input, start, end, over, &mut out, &mut q, &mut text,
         );
@@ -31,20 +34,19 @@ fn main() {
         start = r.start;
         end = r.end;
         let wrote = r.wrote;
-        if !io::write_all(1, &text[0..wrote]) {
-            return;
-        }
+        rt.write_all(&text[..wrote])?;
         let next = r.next;
         match next {
             Next::Again => {}
             Next::Stop => {
-                return;
+                return Ok(());
             }
             Next::Read => {
-                let got = read_more(&mut input, end);
+                let got = read_more(&mut stdin, &mut input, end)?;
                 end += got;
                 over = got == 0;
             }
         }
     }
+    Ok(())
 }
