@@ -5,14 +5,14 @@ ghost use Rattle.wire.specs.Message.{parse, body_in, payload_in, reading_at, off
 use crate::field::{field_u16, field_u32};
 use crate::kind::shape_of;
 use judge::clock::{Offset, Reading, Stamps};
-use wire::message::{Body, Header, LONGEST, Message, Parsed, Shape};
+use wire::message::{Body, Header, LONGEST, Message, Shape};
 
-// What bytes say: a message, or that they are malformed.
-pub fn read_message(s: &[u8]) -> Parsed
+// The message that bytes say, or none where they are malformed.
+pub fn read_message(s: &[u8]) -> Option<Message>
     ensures { result ≡ parse s.now }
 {
     if s.len() < 15 {
-        return Parsed::Malformed;
+        return None;
     }
     let kind = s[0];
     read_body(s, shape_of(kind))
@@ -28,7 +28,7 @@ pub fn train_data(s: &[u8]) -> &[u8]
     &s[16..]
 }
 
-fn read_body(s: &[u8], shape: Shape) -> Parsed
+fn read_body(s: &[u8], shape: Shape) -> Option<Message>
     requires { 15 ≤ length s.now }
     ensures { result ≡ body_in shape s.now }
 {
@@ -36,7 +36,7 @@ fn read_body(s: &[u8], shape: Shape) -> Parsed
         Shape::Bare(body) => read_bare(s, body),
         Shape::Offsets => read_offsets(s),
         Shape::Payload => read_payload(s),
-        Shape::Unknown => Parsed::Malformed,
+        Shape::Unknown => None,
     }
 }
 
@@ -80,26 +80,26 @@ fn read_header(s: &[u8]) -> Header
 }
 
 // A message with the header of the bytes.
-fn read_saying(s: &[u8], body: Body) -> Parsed
+fn read_saying(s: &[u8], body: Body) -> Option<Message>
     requires { 15 ≤ length s.now }
     ensures { result ≡ saying s.now body }
 {
     let header = read_header(s);
-    Parsed::WellFormed(Message { header, body })
+    Some(Message { header, body })
 }
 
-fn read_bare(s: &[u8], body: Body) -> Parsed
+fn read_bare(s: &[u8], body: Body) -> Option<Message>
     requires { 15 ≤ length s.now }
     ensures { result ≡ body_in (Shape.Bare body) s.now }
 {
     if s.len() == 15 {
         read_saying(s, body)
     } else {
-        Parsed::Malformed
+        None
     }
 }
 
-fn read_offsets(s: &[u8]) -> Parsed
+fn read_offsets(s: &[u8]) -> Option<Message>
     requires { 15 ≤ length s.now }
     ensures { result ≡ body_in Shape.Offsets s.now }
 {
@@ -108,30 +108,30 @@ fn read_offsets(s: &[u8]) -> Parsed
         let maximum = offset_at(s, 19);
         read_saying(s, Body::OffsetEst { minimum, maximum })
     } else {
-        Parsed::Malformed
+        None
     }
 }
 
-fn read_payload(s: &[u8]) -> Parsed
+fn read_payload(s: &[u8]) -> Option<Message>
     requires { 15 ≤ length s.now }
     ensures { result ≡ payload_in s.now }
 {
     let n = s.len();
     if n < 16 {
-        return Parsed::Malformed;
+        return None;
     }
     let tag = s[15];
     if n == 16 {
         if tag == 2 {
             return read_saying(s, Body::LifeSign);
         }
-        return Parsed::Malformed;
+        return None;
     }
     if n <= 16 + LONGEST {
         if tag == 3 {
             return read_saying(s, Body::TrainData);
         }
-        return Parsed::Malformed;
+        return None;
     }
-    Parsed::Malformed
+    None
 }

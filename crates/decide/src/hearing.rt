@@ -12,7 +12,7 @@ use judge::sequence::{Class, ahead, classify};
 use rules::act::{Act, ConnectionMove, Delivery, Verdict};
 use rules::answer::Answer;
 use rules::state::End;
-use wire::message::{Body, Header, Parsed};
+use wire::message::{Body, Header, Message};
 
 pub fn on_message(e: End, at: Reading, bytes: &[u8]) -> Act
     ensures { result ≡ on_message e at (parse bytes.now) }
@@ -25,12 +25,12 @@ pub fn on_message(e: End, at: Reading, bytes: &[u8]) -> Act
     on_parsed(e, at, read_message(bytes))
 }
 
-fn on_parsed(e: End, at: Reading, parsed: Parsed) -> Act
+fn on_parsed(e: End, at: Reading, parsed: Option<Message>) -> Act
     ensures { result ≡ on_parsed e at parsed }
 {
     let life = e.life;
     match parsed {
-        Parsed::WellFormed(m) => {
+        Some(m) => {
             let header = m.header;
             let body = m.body;
             let due = awaited(life);
@@ -40,7 +40,7 @@ fn on_parsed(e: End, at: Reading, parsed: Parsed) -> Act
             }
             Act::Note(Answer::NotAwaited)
         }
-        Parsed::Malformed => Act::Note(Answer::Malformed),
+        None => Act::Note(Answer::Malformed),
     }
 }
 

@@ -1,4 +1,5 @@
 -- The stamps to echo are those of the last message accepted.
+use Rattle.std.specs.Prelude.{Some}
 use Prim.Native.Nat.{ℕ, ◌%◌, ◌^◌}
 use native.Mathlib.Omega.{arith}
 use mathlib.Core.Bool.{Bool, true, false}
@@ -14,7 +15,6 @@ use Rattle.wire.specs.declared.message.Body.{Body}
 use Rattle.wire.specs.declared.message.Body.TheVariants.{OffsetStart, OffsetAnsw1, OffsetAnsw2, OffsetEst, OffsetEnd}
 use Rattle.wire.specs.declared.message.Header.{Header}
 use Rattle.wire.specs.declared.message.Message.{Message}
-use Rattle.wire.specs.declared.message.Parsed.TheVariants.{WellFormed}
 use Rattle.rules.specs.Answers.{number_of}
 use Rattle.rules.specs.Claims.{answer_of}
 use Rattle.rules.specs.Perform.{performed}
@@ -90,7 +90,7 @@ module _ (k : Kept) (c : Call) where
   Take act = Takes (entry_by k c act)
 
   -- the header of a message that was read has the bytes' own stamps
-  same_echo : (h : Header) (body : Body) → parse c.given ≡ WellFormed (record { header = h; body = body })
+  same_echo : (h : Header) (body : Body) → parse c.given ≡ Some (record { header = h; body = body })
       → record { peer = h.stamps.sent; own = c.at } ≡ echo_of (entry_by k c (Note Handled))
   same_echo h body reads =
       ap (λ (x : Header). record { peer = x.stamps.sent; own = c.at }) (reads_as c.given (record { header = h; body = body }) reads).0

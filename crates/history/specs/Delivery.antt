@@ -1,12 +1,11 @@
 -- A fresh message of the expected number is delivered, and nothing is delivered but fresh messages of the next N numbers.
-use Rattle.std.specs.Prelude.{ℕ, ◌^◌, ◌≤◌, ◌<◌, Bool, true, false, cond, List, ◌≡◌, length}
+use Rattle.std.specs.Prelude.{ℕ, ◌^◌, ◌≤◌, ◌<◌, Bool, true, false, cond, List, ◌≡◌, length, Some}
 use Rattle.judge.specs.Clock.{since_of}
 use Rattle.judge.specs.declared.clock.Reading.{Reading}
 use Rattle.wire.specs.Message.{parse, header_in, train_in}
 use Rattle.wire.specs.Writing.{over}
 use Rattle.wire.specs.declared.message.Body.TheVariants.{LifeSign, TrainData}
 use Rattle.wire.specs.declared.message.Header.{Header}
-use Rattle.wire.specs.declared.message.Parsed.TheVariants.{WellFormed}
 use Rattle.rules.specs.Claims.{answer_of}
 use Rattle.rules.specs.Decide.{least_room}
 use Rattle.rules.specs.Ends.{no_flags}
@@ -28,7 +27,7 @@ HandedOver false given out r = (r.outcome.front ≡ none) × (r.out ≡ out)
 
 -- the bytes are a kind 6 with a header: train data or a life sign
 abbrev pub Says : List ℕ → Header → Bool → Type 0
-Says given h train = parse given ≡ WellFormed (record { header = h; body = cond train TrainData LifeSign })
+Says given h train = parse given ≡ Some (record { header = h; body = cond train TrainData LifeSign })
 
 -- an event is taken: there is room, and the clock has not gone back
 pub record IsTaken (e : End) (at : Reading) (out : List ℕ) : Type 0 where

@@ -1,13 +1,12 @@
 -- A message as a row of numbers: kind, number, sent, echo and receipt, then what its body adds.
-use Rattle.std.specs.Prelude.{ℕ, cond, List, [], ◌∷◌, ltb, length, take}
+use Rattle.std.specs.Prelude.{ℕ, cond, List, [], ◌∷◌, ltb, length, take, None, Option, Some}
 use Rattle.wire.specs.Message.{kind_of, parse}
 use Rattle.wire.specs.declared.message.Body.{Body}
 use Rattle.wire.specs.declared.message.Body.TheVariants.{OffsetStart, OffsetAnsw1, OffsetAnsw2, OffsetEst, OffsetEnd, LifeSign, TrainData}
 use Rattle.wire.specs.declared.message.Header.{Header}
-use Rattle.wire.specs.declared.message.Parsed.{Parsed}
-use Rattle.wire.specs.declared.message.Parsed.TheVariants.{WellFormed, Malformed}
 use Rattle.inspect.specs.declared.hex.Line.{Line}
 use Rattle.inspect.specs.declared.show.Row.{Row}
+use Rattle.wire.specs.declared.message.Message.{Message}
 
 -- a kind, a header, two numbers more, and how many of all these count
 abbrev pub row : ℕ → Header → ℕ → ℕ → ℕ → Row
@@ -31,9 +30,9 @@ row_under kind h TrainData = row kind h 3 0 6
 abbrev pub row_of : Header → Body → Row
 row_of h b = row_under (kind_of b) h b
 
-abbrev pub count_of : Parsed → ℕ
-count_of (WellFormed m) = (row_of m.header m.body).count
-count_of Malformed = 0
+abbrev pub count_of : Option Message → ℕ
+count_of (Some m) = (row_of m.header m.body).count
+count_of None = 0
 
 -- how many numbers are printed for a line whose bytes stand at the front of s
 abbrev pub told : Line → List ℕ → ℕ

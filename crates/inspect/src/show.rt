@@ -7,7 +7,7 @@ use crate::hex::Line;
 use codec::kind::kind_of;
 use codec::reading::{read_message, train_data};
 use std::io;
-use wire::message::{Body, Header, Parsed};
+use wire::message::{Body, Header};
 
 #[derive(Clone, Copy)]
 pub struct Row {
@@ -79,7 +79,7 @@ fn show_message(rt: &impl Print, s: &[u8]) -> io::Result<usize>
 {
     let parsed = read_message(s);
     match parsed {
-        Parsed::WellFormed(m) => {
+        Some(m) => {
             let h = m.header;
             let body = m.body;
             let n = show_row(rt, row_of(h, body))?;
@@ -89,7 +89,7 @@ fn show_message(rt: &impl Print, s: &[u8]) -> io::Result<usize>
             println!(rt; "")?;
             Ok(n)
         }
-        Parsed::Malformed => {
+        None => {
             println!(rt; "malformed")?;
             Ok(0)
         }

@@ -8,18 +8,17 @@ use judge::clock::Reading;
 use perform::end::asks_at_once;
 use perform::line::blank_line;
 use rules::answer::Answer;
-use rules::effect::Made;
 use rules::settings::Settings;
 use rules::state::{Asking, End, Life, Role};
 
 // A fresh end, or answer 1 where a setting is out of range.
-pub fn make(role: Role, at: Reading, settings: Settings) -> Made
+pub fn make(role: Role, at: Reading, settings: Settings) -> Result<End, Answer>
     ensures { MakePromise role at settings result }
 {
     if in_range(settings) {
-        Made::Fresh(fresh_end(role, at, settings))
+        Ok(fresh_end(role, at, settings))
     } else {
-        Made::Refused(Answer::OutOfRange)
+        Err(Answer::OutOfRange)
     }
 }
 

@@ -1,4 +1,5 @@
 -- All that one event can make of a side: a connection begins, or a few changes follow each other, each with what leads to it.
+use Rattle.std.specs.Prelude.{Some}
 use Prim.Native.Nat.{ℕ, ◌+◌, ◌≤◌}
 use mathlib.Core.Bool.{Bool, true, false, ◌||◌}
 use mathlib.Core.List.{List, [], ◌∷◌, ◌++◌}
@@ -14,7 +15,6 @@ use Rattle.wire.specs.Message.{parse, kind_of}
 use Rattle.wire.specs.declared.message.Header.{Header}
 use Rattle.wire.specs.declared.message.Body.{Body}
 use Rattle.wire.specs.declared.message.Body.TheVariants.{OffsetStart, OffsetAnsw1, OffsetAnsw2, OffsetEst, OffsetEnd, LifeSign, TrainData}
-use Rattle.wire.specs.declared.message.Parsed.TheVariants.{WellFormed}
 use Rattle.rules.specs.declared.act.Event.TheVariants.{Message}
 use Rattle.rules.specs.declared.state.Role.TheVariants.{Initiator, Called}
 use Rattle.rules.specs.declared.state.Life.{Life}
@@ -85,7 +85,7 @@ pub record Sends (time : ℕ) (x : View) (n : Note) : Type 0 where
   pub header : n.message.header ≡ (message_of (clock_at time x) n.message.body x).header
   pub answer : is_answer n.message.body ≡ true → 1 ≤ x.count.accepted
   pub up : kind_of n.message.body ≡ 6 → x.life ≡ Up
-  pub reads : parse n.letter.bytes ≡ WellFormed n.message
+  pub reads : parse n.letter.bytes ≡ Some n.message
   pub fits : Fits n.message
   pub connection : n.letter.connection ≡ x.connection
   pub index : n.letter.index ≡ x.count.sent

@@ -1,4 +1,5 @@
 -- The claims of specs/Order.antt, specs/Age.antt and specs/Users.antt, each from what holds after every run.
+use Rattle.std.specs.Prelude.{Some}
 use Prim.Native.Nat.{ℕ, ◌+◌, ◌-◌, ◌<◌}
 use native.Mathlib.Omega.{arith}
 use mathlib.Core.Bool.{Bool, true, false, cond}
@@ -10,7 +11,6 @@ use Rattle.wire.specs.Message.{parse}
 use Rattle.wire.specs.declared.message.Header.{Header}
 use Rattle.wire.specs.declared.message.Body.{Body}
 use Rattle.wire.specs.declared.message.Message.{Message}
-use Rattle.wire.specs.declared.message.Parsed.TheVariants.{WellFormed}
 use Rattle.rules.specs.Claims.{answer_of}
 use Rattle.rules.specs.declared.state.Life.TheVariants.{Up}
 use Rattle.rules.specs.declared.effect.Front.{Front}
@@ -105,7 +105,7 @@ nothing_old_delivered b sound ms run =
 module _ (w : World) (to from : Side) (o : Whole w.time from.bias (notes_of from.log) (view_of to))
     (p : Whole w.time to.bias (notes_of to.log) (view_of from)) where
   bounded : (l : Letter) (h : Header) (body : Body) → MayHandOver w.time to from l → to.end.life ≡ Up
-      → parse l.bytes ≡ WellFormed (record { header = h; body = body }) → AgeBounded w to from l h
+      → parse l.bytes ≡ Some (record { header = h; body = body }) → AgeBounded w to from l h
   unfolding note_of
   bounded l h body may up reads =
       let s = p.clocks.stamped (note_of l) (note_among from.log l may.was_sent) in

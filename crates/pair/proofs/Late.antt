@@ -1,4 +1,5 @@
 -- What leads to the answer "late".
+use Rattle.std.specs.Prelude.{Some}
 use Prim.Native.Nat.{ℕ, ◌<◌}
 use native.Mathlib.Omega.{arith}
 use mathlib.Core.Bool.{Bool, true, false}
@@ -10,7 +11,6 @@ use Rattle.judge.specs.declared.clock.Reading.{Reading}
 use Rattle.wire.specs.Message.{parse}
 use Rattle.wire.specs.declared.message.Header.{Header}
 use Rattle.wire.specs.declared.message.Body.{Body}
-use Rattle.wire.specs.declared.message.Parsed.TheVariants.{WellFormed}
 use Rattle.rules.proofs.Grounds.{NoteGrounds, MoveGrounds, VerdictGrounds, StayGrounds, Failure, Fallen, body_of}
 use Rattle.rules.proofs.Grounds.Failure.{is_old, is_late}
 use Rattle.rules.proofs.Grounds.Fallen.{by_silence, by_start, by_loss, by_failure}
@@ -44,7 +44,7 @@ pub record Stale (time : ℕ) (s : Side) (c : Happening) : Type 0 where
   pub body : Body
   pub comes : c.event ≡ Message
   pub lives : s.end.life ≡ Up
-  pub reads : parse c.letter.bytes ≡ WellFormed (record { header = header; body = body })
+  pub reads : parse c.letter.bytes ≡ Some (record { header = header; body = body })
   pub old : s.end.settings.age < age_for s.end (clock_of s time) header
 
 -- what is delivered is not late

@@ -1,4 +1,5 @@
 -- The log with every letter read: each letter is parsed here, once, and what follows speaks of messages.
+use Rattle.std.specs.Prelude.{None, Option, Some}
 use Prim.Native.Nat.{ℕ, suc}
 use mathlib.Core.Bool.{true}
 use mathlib.Core.List.{List, [], ◌∷◌}
@@ -11,8 +12,6 @@ use Rattle.wire.specs.Message.{encode, parse, train_in}
 use Rattle.wire.specs.Writing.{carries}
 use Rattle.wire.specs.declared.message.Body.TheVariants.{LifeSign}
 use Rattle.wire.specs.declared.message.Message.{Message}
-use Rattle.wire.specs.declared.message.Parsed.{Parsed}
-use Rattle.wire.specs.declared.message.Parsed.TheVariants.{WellFormed, Malformed}
 use Rattle.rules.specs.State.{zero_reading}
 use Rattle.pair.specs.Among.{Among}
 use Rattle.pair.specs.World.{Letter}
@@ -32,9 +31,9 @@ nonsense =
       body = LifeSign;
     }
 
-abbrev message_in : Parsed → Message
-message_in (WellFormed m) = m
-message_in Malformed = nonsense
+abbrev message_in : Option Message → Message
+message_in (Some m) = m
+message_in None = nonsense
 
 unfoldable pub note_of : Letter → Note
 note_of l =
@@ -50,15 +49,15 @@ pub note_letter : (l : Letter) → (note_of l).letter ≡ l
 unfolding note_of
 note_letter l = refl
 
-pub note_reads : (l : Letter) (m : Message) → parse l.bytes ≡ WellFormed m
+pub note_reads : (l : Letter) (m : Message) → parse l.bytes ≡ Some m
     → ((note_of l).message ≡ m) × ((note_of l).train ≡ carried m.body (train_in l.bytes))
 unfolding note_of
 note_reads l m reads =
-    (ap message_in reads, ap (λ (p : Parsed). carried (message_in p).body (train_in l.bytes)) reads)
+    (ap message_in reads, ap (λ (p : Option Message). carried (message_in p).body (train_in l.bytes)) reads)
 
 -- what was written is read
 pub note_written : (l : Letter) (m : Message) (d : List ℕ) → l.bytes ≡ encode m d → Fits m → carries m.body d ≡ true
-    → (parse l.bytes ≡ WellFormed m) × (note_of l ≡ record { letter = l; message = m; train = carried m.body d })
+    → (parse l.bytes ≡ Some m) × (note_of l ≡ record { letter = l; message = m; train = carried m.body d })
 unfolding note_of
 note_written l m d is fits ok =
     let back = reads_back m d fits ok in

@@ -1,4 +1,5 @@
 -- Whatever an end sends is read as what it said: its numbers and stamps have the widths of the line.
+use Rattle.std.specs.Prelude.{Some}
 use Prim.Native.Nat.{ℕ, ◌+◌, ◌^◌, ◌<◌}
 use native.Mathlib.Nat.{mod-lt}
 use native.Mathlib.Omega.{arith}
@@ -10,7 +11,6 @@ use Rattle.wire.specs.Message.{parse}
 use Rattle.wire.specs.declared.message.Header.{Header}
 use Rattle.wire.specs.declared.message.Body.{Body}
 use Rattle.wire.specs.declared.message.Message.{Message}
-use Rattle.wire.specs.declared.message.Parsed.TheVariants.{WellFormed}
 use Rattle.rules.specs.State.{zero_reading}
 use Rattle.rules.specs.declared.state.Echo.{Echo}
 use Rattle.rules.specs.declared.state.Life.{Life}
@@ -31,7 +31,7 @@ pub record Widths (next : ℕ) (echo : Echo) : Type 0 where
   pub own : echo.own.0 < 2 ^ 32
 
 pub record Reads (n : Note) : Type 0 where
-  pub reads : parse n.letter.bytes ≡ WellFormed n.message
+  pub reads : parse n.letter.bytes ≡ Some n.message
   pub fits : Fits n.message
 
 abbrev pub AllRead : List Note → Type 0

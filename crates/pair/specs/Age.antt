@@ -1,11 +1,10 @@
 -- Claims: the computed age is never below the true one, and above it by no more than the spread.
-use Rattle.std.specs.Prelude.{ℕ, ◌+◌, ◌≤◌, ◌<◌, ◌≡◌}
+use Rattle.std.specs.Prelude.{ℕ, ◌+◌, ◌≤◌, ◌<◌, ◌≡◌, Some}
 use Rattle.judge.specs.Clock.{spread_of}
 use Rattle.judge.specs.Difference.{diff}
 use Rattle.wire.specs.Message.{parse}
 use Rattle.wire.specs.declared.message.Header.{Header}
 use Rattle.wire.specs.declared.message.Body.{Body}
-use Rattle.wire.specs.declared.message.Parsed.TheVariants.{WellFormed}
 use Rattle.rules.specs.Claims.{answer_of}
 use Rattle.rules.specs.Hearing.{age_for}
 use Rattle.rules.specs.declared.act.Event.TheVariants.{Message}
@@ -43,7 +42,7 @@ pub record AgeBounded (w : World) (to from : Side) (l : Letter) (h : Header) : T
 abbrev pub AgeIsBounded : Type 0
 AgeIsBounded =
     EveryRun (BothWays (λ w to from. (l : Letter) (h : Header) (body : Body) → MayHandOver w.time to from l → to.end.life ≡ Up
-    → parse l.bytes ≡ WellFormed (record { header = h; body = body }) → AgeBounded w to from l h))
+    → parse l.bytes ≡ Some (record { header = h; body = body }) → AgeBounded w to from l h))
 
 -- nothing truly older than the age limit is delivered
 pub record Timely (to : Side) (d : Delivery) : Type 0 where

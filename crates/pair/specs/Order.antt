@@ -1,9 +1,8 @@
 -- Claims: each sent data message is delivered at most once, in the order of sending, and in its own connection.
-use Rattle.std.specs.Prelude.{◌<◌, List, [], ◌∷◌, ◌≡◌, length}
+use Rattle.std.specs.Prelude.{◌<◌, List, [], ◌∷◌, ◌≡◌, length, Some}
 use Rattle.wire.specs.Message.{parse, kind_of}
 use Rattle.wire.specs.declared.message.Header.{Header}
 use Rattle.wire.specs.declared.message.Body.{Body}
-use Rattle.wire.specs.declared.message.Parsed.TheVariants.{WellFormed}
 use Rattle.pair.specs.Among.{Among}
 use Rattle.pair.specs.World.{Letter, Delivery, Side}
 use Rattle.pair.specs.Channel.{MayHandOver}
@@ -38,7 +37,7 @@ AtMostOnce = EveryRun (BothWays (λ w to from. Once to.delivered))
 pub record RightlyDelivered (from : Side) (d : Delivery) : Type 0 where
   pub was_sent : Among d.letter from.log
   pub same_connection : d.letter.connection ≡ d.connection
-  pub is_data : (h : Header) × (body : Body) × (parse d.letter.bytes ≡ WellFormed (record { header = h; body = body }))
+  pub is_data : (h : Header) × (body : Body) × (parse d.letter.bytes ≡ Some (record { header = h; body = body }))
       × (kind_of body ≡ 6)
 
 abbrev pub OnlyOfThisConnection : Type 0

@@ -1,4 +1,5 @@
 -- Laws of the loop that plays: what remains of a piece after some turns.
+use Rattle.std.specs.Prelude.{Option}
 use Prim.Native.Nat.{ℕ, ◌+◌, ◌-◌, ◌≤◌, ◌<◌}
 use native.Mathlib.Omega.{arith}
 use borrow.Author.Tests.{ltb-false}
@@ -14,11 +15,11 @@ use Rattle.script.specs.Reply.{Held, Reply, held_as, reply_to}
 use Rattle.script.specs.Play.{Piece, unfinished, pauses, unplayed, ended_by, joined, played}
 use Rattle.script.specs.Put.{Put}
 use Rattle.script.specs.Promise.{Tells, Plays}
-use Rattle.script.specs.declared.seat.Seat.{Seat}
 use Rattle.script.specs.declared.reply.Replied.{Replied}
 use Rattle.script.proofs.Whole.{has_size, is_whole}
 use Rattle.script.proofs.Playing.{left, played_pauses, played_ends, played_goes, both_false}
 use Rattle.player.proofs.Puts.{sets_behind}
+use Rattle.rules.specs.declared.state.End.{End}
 
 -- ---- what remains of a piece p after some turns: the piece r
 
@@ -63,7 +64,7 @@ begins last h s text =
       remains = subst (λ (k : ℕ). Remains p text (played last h s k) 0 0 text) all (all_remains p text);
     }
 
-held_again : (h : Held) (seat : Seat) (queue out : List ℕ) → seat ≡ h.seat → queue ≡ h.queue → out ≡ h.out → h ≡ held_as seat queue out
+held_again : (h : Held) (seat : Option End) (queue out : List ℕ) → seat ≡ h.seat → queue ≡ h.queue → out ≡ h.out → h ≡ held_as seat queue out
 held_again h seat queue out d q o = λ i. record { seat = sym d i; queue = sym q i; out = sym o i }
 
 room_left : (last : Bool) (s : List ℕ) (room : ℕ) → pauses last s room ≡ false → line_room ≤ room

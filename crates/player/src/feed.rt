@@ -10,14 +10,14 @@ use crate::part::{first, past};
 use crate::play::play;
 use queue::BYTES;
 use rules::effect::ROOM;
+use rules::state::End;
 use script::reply::{Fed, Next};
-use script::seat::Seat;
 
 // Plays the bytes of `input` from `start` to `end`, as far as the text has room; `over` says that no more can
 // come. The first `wrote` bytes of the text are then to be printed. Where more must come, what is still to be
 // played is moved to the front, and what comes belongs behind it.
 pub fn feed(
-    seat: Seat,
+    seat: Option<End>,
     input: &mut [u8],
     start: usize,
     end: usize,
@@ -46,7 +46,7 @@ pub fn feed(
     fed(held, wrote, 0, kept, Next::Read)
 }
 
-fn fed(seat: Seat, wrote: usize, start: usize, end: usize, next: Next) -> Fed
+fn fed(seat: Option<End>, wrote: usize, start: usize, end: usize, next: Next) -> Fed
     ensures { result ≡ record { seat = seat; wrote = wrote; start = start; end = end; next = next } }
 {
     Fed {

@@ -9,14 +9,14 @@ use crate::record::size_in;
 use crate::reply::reply_at;
 use queue::BYTES;
 use rules::effect::ROOM;
+use rules::state::End;
 use script::reply::{LINE, Played};
-use script::seat::Seat;
 
 // Answers the records of `s`, one line each from the front of `text` on. It stops where nothing is left,
 // where a line may not fit any more, and, unless `s` is the last piece, before a record that is cut: what
 // was not used is to be handed in again, with more room or with what follows it.
 pub fn play(
-    seat: Seat,
+    seat: Option<End>,
     s: &[u8],
     last: bool,
     out: &mut [u8; ROOM],

@@ -46,21 +46,21 @@ pub fn record_bytes(s: &[u8]) -> &[u8]
 }
 
 // What the record at the front says. One that is cut, and one of a kind that there is not, is bad.
-pub fn read_record(s: &[u8]) -> Record
+pub fn read_record(s: &[u8]) -> Option<Record>
     ensures { result ≡ record_in s.now }
 {
     if s.len() == 0 {
-        return Record::Bad;
+        return None;
     }
     let kind = s[0];
     let size = size_of(kind);
     if s.len() < size {
-        return Record::Bad;
+        return None;
     }
     read_kind(s, kind)
 }
 
-fn read_kind(s: &[u8], kind: u8) -> Record
+fn read_kind(s: &[u8], kind: u8) -> Option<Record>
     ensures { result ≡ (form_of kind).reads s.now }
 {
     match kind {
@@ -71,35 +71,35 @@ fn read_kind(s: &[u8], kind: u8) -> Record
         5 => read_plain(s, Event::Disconnect),
         6 => read_lengthy(s, Event::Data, DATA_FIELD),
         7 => read_lengthy(s, Event::Message, MESSAGE_FIELD),
-        _ => Record::Bad,
+        _ => None,
     }
 }
 
-fn read_plain(s: &[u8], event: Event) -> Record
+fn read_plain(s: &[u8], event: Event) -> Option<Record>
     ensures { result ≡ plain_in event s.now }
 {
     let at = Reading(read_u32(s, 1));
-    Record::Happen {
+    Some(Record::Happen {
         event,
         at,
         given: Span { from: 0, count: 0 },
-    }
+    })
 }
 
 // The length has one byte.
-fn read_lengthy(s: &[u8], event: Event, field: usize) -> Record
+fn read_lengthy(s: &[u8], event: Event, field: usize) -> Option<Record>
     ensures { result ≡ lengthy_in event 1 field s.now }
 {
     let at = Reading(read_u32(s, 1));
     let count = read_count(s, 5);
     if count <= field {
-        return Record::Happen {
+        return Some(Record::Happen {
             event,
             at,
             given: Span { from: 6, count },
-        };
+        });
     }
-    Record::Bad
+    None
 }
 
 // A length of one byte.
@@ -115,27 +115,27 @@ fn widen(x: u8) -> usize
     x as usize
 }
 
-fn read_make(s: &[u8]) -> Record
+fn read_make(s: &[u8]) -> Option<Record>
     ensures { result ≡ make_in s.now }
 {
     let role = read_u8(s, 1);
     let at = Reading(read_u32(s, 2));
     let settings = read_settings(s);
     if role == 0 {
-        return Record::Make {
+        return Some(Record::Make {
             role: Role::Initiator,
             at,
             settings,
-        };
+        });
     }
     if role == 1 {
-        return Record::Make {
+        return Some(Record::Make {
             role: Role::Called,
             at,
             settings,
-        };
+        });
     }
-    Record::Bad
+    None
 }
 
 fn read_settings(s: &[u8]) -> Settings

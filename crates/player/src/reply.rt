@@ -14,16 +14,15 @@ use link::step::step;
 use queue::BYTES;
 use rules::act::Event;
 use rules::answer::Answer;
-use rules::effect::{Made, ROOM};
+use rules::effect::ROOM;
 use rules::settings::Settings;
-use rules::state::Role;
+use rules::state::{End, Role};
 use script::record::Record;
 use script::reply::{LINE, Replied};
-use script::seat::Seat;
 
 // Answers the record at the front of `s`: the line stands at the front of `text`.
 pub fn reply(
-    seat: Seat,
+    seat: Option<End>,
     s: &[u8],
     out: &mut [u8; ROOM],
     q: &mut [u8; BYTES],
@@ -36,7 +35,7 @@ pub fn reply(
 
 // The same, with the line from place `at` of the text on.
 pub(crate) fn reply_at(
-    seat: Seat,
+    seat: Option<End>,
     s: &[u8],
     out: &mut [u8; ROOM],
     q: &mut [u8; BYTES],
@@ -48,17 +47,21 @@ pub(crate) fn reply_at(
 {
     let own = record_bytes(s);
     match read_record(own) {
-        Record::Make {
-            role,
-            at: made,
-            settings,
-        } => reply_to_make(seat, role, made, settings, text, at),
-        Record::Happen {
-            event,
-            at: moment,
-            given,
-        } => { reply_to_event(seat, event, moment, given_in(own, given), out, q, text, at) }
-        Record::Bad => {
+        Some(
+            Record::Make {
+                role,
+                at: made,
+                settings,
+            },
+        ) => reply_to_make(seat, role, made, settings, text, at),
+        Some(
+            Record::Happen {
+                event,
+                at: moment,
+                given,
+            },
+        ) => { reply_to_event(seat, event, moment, given_in(own, given), out, q, text, at) }
+        None => {
             let to = put(text, at, b"bad record\n");
             Replied {
                 seat,
@@ -71,7 +74,7 @@ pub(crate) fn reply_at(
 
 // A valid make starts anew, and a refused one keeps the end there was.
 fn reply_to_make(
-    seat: Seat,
+    seat: Option<End>,
     role: Role,
     made: Reading,
     settings: Settings,
@@ -82,14 +85,14 @@ fn reply_to_make(
     ensures { (q out : List ℕ) → Tells (make_reply (held_as seat q out) (made_of role made settings)) text.old at result text.new q out }
 {
     match make(role, made, settings) {
-        Made::Fresh(e) => reply_with(Seat::Holding(e), Answer::Handled, text, at),
-        Made::Refused(answer) => reply_with(seat, answer, text, at),
+        Ok(e) => reply_with(Some(e), Answer::Handled, text, at),
+        Err(answer) => reply_with(seat, answer, text, at),
     }
 }
 
 // Events before a valid make have no rule.
 fn reply_to_event(
-    seat: Seat,
+    seat: Option<End>,
     event: Event,
     moment: Reading,
     given: &[u8],
@@ -102,8 +105,8 @@ fn reply_to_event(
     ensures { Tells (event_reply (held_as seat q.old out.old) seat event moment given.now) text.old at result text.new q.new out.new }
 {
     match seat {
-        Seat::Empty => reply_with(Seat::Empty, Answer::NoRule, text, at),
-        Seat::Holding(e) => {
+        None => reply_with(None, Answer::NoRule, text, at),
+        Some(e) => {
             let o = step(e, event, moment, given, out, q);
             let end = o.end;
             let answer = o.answer;
@@ -111,7 +114,7 @@ fn reply_to_event(
             let front = o.front;
             let to = put_line(text, at, answer, flags, front, out);
             Replied {
-                seat: Seat::Holding(end),
+                seat: Some(end),
                 to,
                 bad: false,
             }
@@ -120,7 +123,7 @@ fn reply_to_event(
 }
 
 // A line with an answer alone.
-fn reply_with(seat: Seat, answer: Answer, text: &mut [u8], at: usize) -> Replied
+fn reply_with(seat: Option<End>, answer: Answer, text: &mut [u8], at: usize) -> Replied
     requires { at + line_room ≤ length text.old }
     ensures { (q out : List ℕ) → Tells (reply_with (held_as seat q out) answer []) text.old at result text.new q out }
 {

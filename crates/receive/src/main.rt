@@ -12,7 +12,6 @@ use judge::clock::Reading;
 use link::make::make;
 use link::step::step;
 use queue::BYTES;
-use rules::effect::Made;
 use rules::state::Role;
 use std::io;
 
@@ -24,7 +23,7 @@ fn main(rt: HostRuntime) -> io::Result<()> {
     let mut input = [0u8; 85];
     input::fill(&mut rt.stdin(), &mut input)?;
     let at = Reading(read_u32(&input, 81));
-    let Made::Fresh(fresh) = make(Role::Called, at, timed::settings()) else {
+    let Ok(fresh) = make(Role::Called, at, timed::settings()) else {
         return Ok(());
     };
     let mut end = fresh;

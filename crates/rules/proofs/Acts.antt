@@ -1,4 +1,5 @@
 -- From "for each act, from its grounds" to "for each event": the one walk through the tests of the rules.
+use Rattle.std.specs.Prelude.{None, Option, Some}
 use Prim.Native.Nat.{ℕ, ◌+◌}
 use mathlib.Core.Bool.{Bool, true, false, false≢true}
 use mathlib.Core.List.{List}
@@ -18,8 +19,7 @@ use Rattle.wire.specs.Message.{parse, kind_of}
 use Rattle.wire.specs.declared.message.Header.{Header}
 use Rattle.wire.specs.declared.message.Body.{Body}
 use Rattle.wire.specs.declared.message.Body.TheVariants.{OffsetStart, OffsetAnsw1, OffsetAnsw2, OffsetEst, OffsetEnd, LifeSign, TrainData}
-use Rattle.wire.specs.declared.message.Parsed.{Parsed}
-use Rattle.wire.specs.declared.message.Parsed.TheVariants.{WellFormed, Malformed}
+use Rattle.wire.specs.declared.message.Message.{Message as Received}
 use Rattle.rules.specs.State.{phase_of, awaited_by}
 use Rattle.rules.specs.Living.{overdue, overdue_in, may_ask, in_time, on_connect, on_disconnect, on_confirm, on_idle_tick}
 use Rattle.rules.specs.Starting.{next_for, in_turn, measures}
@@ -164,7 +164,7 @@ module _ (e : End) (event : Event) (at : Reading) (b : List ℕ) (P : Act → Ty
   turn life h body act low kind hears ok =
       by_test P (next_for e h) (λ t. ok (record { hearing = hears; next = t })) (λ t. each.notes _ (out_of_turn life h body refl hears low t kind))
 
-  awaited : Timely e event at b Message → (h : Header) (body : Body) → parse b ≡ WellFormed (record { header = h; body = body })
+  awaited : Timely e event at b Message → (h : Header) (body : Body) → parse b ≡ Some (record { header = h; body = body })
       → kind_of body ≡ awaited_by e.life → P (on_awaited e at h body)
   awaited t h OffsetStart reads kind =
       turn Greeted h OffsetStart _ refl refl
@@ -196,12 +196,12 @@ module _ (e : End) (event : Event) (at : Reading) (b : List ℕ) (P : Act → Ty
       judging h true (record { comes = t.comes; timely = t.timely; living = living_by 6 (λ z. omega arith) kind; reads = reads })
       (class_for e h) refl
 
-  parsed : Listening e event at b → (p : Parsed) → parse b ≡ p → P (on_parsed e at p)
-  parsed l (WellFormed m) reads =
+  parsed : Listening e event at b → (p : Option Received) → parse b ≡ p → P (on_parsed e at p)
+  parsed l (Some m) reads =
       by_test P (eqb (kind_of m.body) (awaited_by e.life))
       (λ t. awaited l.coming m.header m.body reads (eqb-true (kind_of m.body) (awaited_by e.life) t))
       (λ t. each.notes _ (other_kind m refl l reads (eqb-false (kind_of m.body) (awaited_by e.life) t)))
-  parsed l Malformed reads = each.notes _ (malformed refl l reads)
+  parsed l None reads = each.notes _ (malformed refl l reads)
 
   message : Timely e event at b Message → P (on_message e at (parse b))
   message t =

@@ -1,4 +1,5 @@
 -- The claims of specs/Claims.antt, each proved by going through the acts.
+use Rattle.std.specs.Prelude.{Err, Ok, Some}
 use Prim.Native.Nat.{ℕ}
 use native.Mathlib.Omega.{arith}
 use mathlib.Core.Bool.{Bool, true, false}
@@ -17,11 +18,10 @@ use Rattle.wire.specs.Message.{encode, parse}
 use Rattle.wire.specs.Writing.{carries}
 use Rattle.wire.specs.declared.message.Body.{Body}
 use Rattle.wire.specs.declared.message.Message.{Message}
-use Rattle.wire.specs.declared.message.Parsed.TheVariants.{WellFormed}
 use Rattle.rules.specs.Answers.{number_of}
 use Rattle.rules.specs.Decide.{decide_of}
 use Rattle.rules.specs.Given.{Given}
-use Rattle.rules.specs.Make.{fresh_end}
+use Rattle.rules.specs.Make.{Made, fresh_end}
 use Rattle.rules.specs.Perform.{performed}
 use Rattle.rules.specs.Talking.{delivering}
 use Rattle.rules.specs.Settings.{in_range_of}
@@ -47,8 +47,6 @@ use Rattle.rules.specs.declared.settings.Settings.{Settings}
 use Rattle.rules.specs.declared.state.Role.{Role}
 use Rattle.rules.specs.declared.state.Life.TheVariants.{Idle, Calling, Opening, Settling, Greeted, Answering, Closing, Up}
 use Rattle.rules.specs.declared.state.End.{End}
-use Rattle.rules.specs.declared.effect.Made.{Made}
-use Rattle.rules.specs.declared.effect.Made.TheVariants.{Fresh, Refused}
 use Rattle.rules.specs.declared.effect.Placing.{Placing}
 use Rattle.rules.specs.declared.effect.Placing.TheVariants.{Nothing, Send, SendUser, SendOldest, Deliver as Hand, Store}
 use Rattle.rules.proofs.Acts.{EachTaken, by_act}
@@ -107,15 +105,15 @@ given_exactly_when e event at b out q a =
 
 -- ---- an Idle end holds nothing of a connection
 
-made_fresh : (role : Role) (at : Reading) (settings : Settings) (e : End) → Fresh (fresh_end role at settings) ≡ Fresh e → IdleHoldsNothing e
+made_fresh : (role : Role) (at : Reading) (settings : Settings) (e : End) → ◌≡◌ {A = Made} (Ok (fresh_end role at settings)) (Ok e) → IdleHoldsNothing e
 made_fresh role at settings e is = let q : fresh_end role at settings ≡ e = cc in subst IdleHoldsNothing q (λ idle. (refl, refl))
 
-made_none : (a : Answer) (e : End) → Refused a ≡ Fresh e → IdleHoldsNothing e
+made_none : (a : Answer) (e : End) → ◌≡◌ {A = Made} (Err a) (Ok e) → IdleHoldsNothing e
 made_none a e is = let z : ◌≡◌ {A = ℕ} 0 1 = cc in absurd (omega arith)
 
 pub fresh_holds_nothing : FreshHoldsNothing
 fresh_holds_nothing role at settings =
-    by_test (λ (m : Made). (e : End) → m ≡ Fresh e → IdleHoldsNothing e) (in_range_of settings) (λ t. made_fresh role at settings) (λ t. made_none _)
+    by_test (λ (m : Made). (e : End) → m ≡ Ok e → IdleHoldsNothing e) (in_range_of settings) (λ t. made_fresh role at settings) (λ t. made_none _)
 
 module _ (e : End) (event : Event) (at : Reading) (b : List ℕ) (before : IdleHoldsNothing e) where
   abbrev Holds : Act → Type 0
@@ -251,7 +249,7 @@ queue_moves e event at b out q whole =
 
 -- a message over the front, taken off again
 front_reads : (m : Message) (d out : List ℕ) (n : ℕ) → carries m.body d ≡ true → message (length (encode m d)) ≡ message n
-    → (x : Message) × (parse (take n (encode m d ++ drop (length (encode m d)) out)) ≡ WellFormed x)
+    → (x : Message) × (parse (take n (encode m d ++ drop (length (encode m d)) out)) ≡ Some x)
 front_reads m d out n ok is =
     let long : length (encode m d) ≡ n = cc in
     let x = encode_parses m.header m.body d ok in
@@ -261,7 +259,7 @@ nothing_reads : {A : Type 0} (f : Front) (n : ℕ) → f ≡ message n → f ≡
 nothing_reads f n is other = let z : ◌≡◌ {A = ℕ} 0 1 = cc in absurd (omega arith)
 
 placed_reads : (p : Placing) (b q out : List ℕ) (room n : ℕ) → length q ≡ size → Ready p b room → front_after p b q ≡ message n
-    → (m : Message) × (parse (take n (out_after p b q out)) ≡ WellFormed m)
+    → (m : Message) × (parse (take n (out_after p b q out)) ≡ Some m)
 placed_reads Nothing b q out room n whole ready is = nothing_reads none n is refl
 placed_reads (Send m) b q out room n whole ready is = front_reads m [] out n ready.0 is
 placed_reads (SendUser m) b q out room n whole ready is = front_reads m b out n ready.0 is

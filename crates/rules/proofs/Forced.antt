@@ -1,4 +1,5 @@
 -- Where the table's condition of an answer holds, that answer is given: the tests of the rules lead to it.
+use Rattle.std.specs.Prelude.{Option, Some}
 use Prim.Native.Nat.{ℕ, ◌+◌, ◌-◌, ◌^◌, ◌≤◌, ◌<◌}
 use native.Mathlib.Omega.{arith}
 use mathlib.Core.Bool.{Bool, true, false, not, cond, and-eq-true_iff, false≢true}
@@ -22,8 +23,6 @@ use Rattle.wire.specs.declared.message.Header.{Header}
 use Rattle.wire.specs.declared.message.Body.{Body}
 use Rattle.wire.specs.declared.message.Body.TheVariants.{OffsetStart, OffsetAnsw1, OffsetAnsw2, OffsetEst, OffsetEnd, LifeSign, TrainData}
 use Rattle.wire.specs.declared.message.Message.{Message}
-use Rattle.wire.specs.declared.message.Parsed.{Parsed}
-use Rattle.wire.specs.declared.message.Parsed.TheVariants.{WellFormed}
 use Rattle.rules.specs.State.{phase_of, awaited_by}
 use Rattle.rules.specs.Living.{in_time, on_connect, on_disconnect, on_confirm, on_idle_tick, may_ask}
 use Rattle.rules.specs.Starting.{measures, in_turn, on_answer1, on_answer2, on_estimate}
@@ -134,10 +133,10 @@ module _ (e : End) (event : Event) (at : Reading) (b : List ℕ) (room : ℕ) wh
   unfolding on_event
   judges_message j = judges message j (on_message e at (parse b)) refl
 
-  listens : (p : Parsed) → (awaited_by e.life ≡ 0 → ⊥) → on_message e at p ≡ on_parsed e at p
+  listens : (p : Option Message) → (awaited_by e.life ≡ 0 → ⊥) → on_message e at p ≡ on_parsed e at p
   listens p some = rw (ne_eqb (awaited_by e.life) 0 some)
 
-  hears : (m : Message) → Reads e event at b room m → (awaited_by e.life ≡ 0 → ⊥) → decide_of e event at b room ≡ on_parsed e at (WellFormed m)
+  hears : (m : Message) → Reads e event at b room m → (awaited_by e.life ≡ 0 → ⊥) → decide_of e event at b room ≡ on_parsed e at (Some m)
   hears m r some = judges_message r.judged ∙ listens (parse b) some ∙ ap (on_parsed e at) r.reads
 
   awaited_some : (m : Message) → kind_of m.body ≡ awaited_by e.life → awaited_by e.life ≡ 0 → ⊥
@@ -151,7 +150,7 @@ module _ (e : End) (event : Event) (at : Reading) (b : List ℕ) (room : ℕ) wh
       → Answered NotAwaited (decide_of e event at b room)
   unfolding performed
   hears_other m r some other =
-      by (on_parsed e at (WellFormed m)) NotAwaited (hears m r some) (rw (ne_eqb (kind_of m.body) (awaited_by e.life) other))
+      by (on_parsed e at (Some m)) NotAwaited (hears m r some) (rw (ne_eqb (kind_of m.body) (awaited_by e.life) other))
 
   -- ---- of the start
 
@@ -402,7 +401,7 @@ module _ (e : End) (event : Event) (at : Reading) (b : List ℕ) (room : ℕ) wh
       (rw (good_length b g.2, g.3, le-ltb (waiting_in e.ring) places g.4))
   forced Malformed g =
       by (on_parsed e at (parse b)) Malformed (judges_message g.0 ∙ listens (parse b) g.1)
-      (ap (λ (p : Parsed). (performed e (on_parsed e at p) at).answer) g.2)
+      (ap (λ (p : Option Message). (performed e (on_parsed e at p) at).answer) g.2)
   forced NotAwaited (m, r, why) = not_awaited m r why
   forced StartFailed (m, s, wrong) =
       by (on_awaited e at m.header m.body) StartFailed (hears_awaited m s.reading s.awaited) (wrong_start m s m.body refl wrong)

@@ -1,4 +1,5 @@
 -- What holds when a rule applies: for each act the facts that lead to it.
+use Rattle.std.specs.Prelude.{None, Some}
 use Prim.Native.Nat.{ℕ, ◌+◌, ◌≤◌}
 use mathlib.Core.Bool.{Bool, true, false, cond}
 use mathlib.Core.List.{List}
@@ -16,7 +17,6 @@ use Rattle.wire.specs.declared.message.Header.{Header}
 use Rattle.wire.specs.declared.message.Body.{Body}
 use Rattle.wire.specs.declared.message.Body.TheVariants.{OffsetStart, OffsetAnsw1, OffsetAnsw2, OffsetEst, OffsetEnd, LifeSign, TrainData}
 use Rattle.wire.specs.declared.message.Message.{Message}
-use Rattle.wire.specs.declared.message.Parsed.TheVariants.{WellFormed, Malformed as unreadable}
 use Rattle.rules.specs.State.{phase_of, awaited_by}
 use Rattle.rules.specs.Living.{overdue, may_ask}
 use Rattle.rules.specs.Starting.{next_for, measures, swap_of, measurement_of, estimate_of, offsets_from}
@@ -60,7 +60,7 @@ module _ (e : End) (event : Event) (at : Reading) (b : List ℕ) where
     pub comes : event ≡ message
     pub timely : overdue e at ≡ false
     pub living : e.life ≡ life
-    pub reads : parse b ≡ WellFormed (record { header = h; body = body })
+    pub reads : parse b ≡ Some (record { header = h; body = body })
 
   -- one of the start, in its turn
   pub record Next (life : Life) (h : Header) (body : Body) : Type 0 where
@@ -98,8 +98,8 @@ module _ (e : End) (event : Event) (at : Reading) (b : List ℕ) where
     queue_full : a ≡ QueueFull → Upright Data → sendable (length b) ≡ true → e.line.busy ≡ true
         → ltb (waiting_in e.ring) places ≡ false → NoteGrounds a
     -- messages
-    malformed : a ≡ Malformed → Listening → parse b ≡ unreadable → NoteGrounds a
-    other_kind : (m : Message) → a ≡ NotAwaited → Listening → parse b ≡ WellFormed m → (kind_of m.body ≡ awaited_by e.life → ⊥) → NoteGrounds a
+    malformed : a ≡ Malformed → Listening → parse b ≡ None → NoteGrounds a
+    other_kind : (m : Message) → a ≡ NotAwaited → Listening → parse b ≡ Some m → (kind_of m.body ≡ awaited_by e.life → ⊥) → NoteGrounds a
     out_of_turn : (life : Life) (h : Header) (body : Body) → a ≡ NotAwaited → Heard life h body → phase_of life ≡ starting
         → next_for e h ≡ false → kind_of body ≡ awaited_by life → NoteGrounds a
 

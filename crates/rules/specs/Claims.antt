@@ -1,10 +1,9 @@
 -- What is claimed of one event, whatever the end, the reading and the bytes. Proofs: proofs/Claims.antt.
-use Rattle.std.specs.Prelude.{ℕ, List, [], ◌∷◌, ◌++◌, ◌⊎◌, ◌≡◌, length, take, drop}
+use Rattle.std.specs.Prelude.{ℕ, List, [], ◌∷◌, ◌++◌, ◌⊎◌, ◌≡◌, length, take, drop, Ok, Some}
 use Rattle.judge.specs.declared.clock.Reading.{Reading}
 use Rattle.queue.specs.Ring.{size, empty_ring, entries}
 use Rattle.wire.specs.Message.{encode, parse, train_in}
 use Rattle.wire.specs.declared.message.Message.{Message}
-use Rattle.wire.specs.declared.message.Parsed.TheVariants.{WellFormed}
 use Rattle.rules.specs.Answers.{number_of}
 use Rattle.rules.specs.State.{blank_line}
 use Rattle.rules.specs.declared.answer.Answer.{Answer}
@@ -14,12 +13,10 @@ use Rattle.rules.specs.declared.state.Role.{Role}
 use Rattle.rules.specs.declared.state.Life.TheVariants.{Idle}
 use Rattle.rules.specs.declared.state.End.{End}
 use Rattle.rules.specs.Given.{Given}
-use Rattle.rules.specs.Make.{made_of}
+use Rattle.rules.specs.Make.{Made, made_of}
 use Rattle.rules.specs.Step.{Result, stepped}
 use Rattle.rules.specs.declared.effect.Front.{Front}
 use Rattle.rules.specs.declared.effect.Front.TheVariants.{Nothing as none, Message as message, Datum as datum}
-use Rattle.rules.specs.declared.effect.Made.{Made}
-use Rattle.rules.specs.declared.effect.Made.TheVariants.{Fresh}
 
 -- ---- no second outcome fits
 
@@ -53,7 +50,7 @@ abbrev pub IdleHoldsNothing : End → Type 0
 IdleHoldsNothing e = e.life ≡ Idle → (e.line ≡ blank_line) × (e.ring ≡ empty_ring)
 
 abbrev pub FreshHoldsNothing : Type 0
-FreshHoldsNothing = (role : Role) (at : Reading) (settings : Settings) (e : End) → made_of role at settings ≡ Fresh e → IdleHoldsNothing e
+FreshHoldsNothing = (role : Role) (at : Reading) (settings : Settings) (e : End) → made_of role at settings ≡ Ok e → IdleHoldsNothing e
 
 abbrev pub StepHoldsNothing : Type 0
 StepHoldsNothing =
@@ -97,4 +94,4 @@ abbrev pub SentReadsBack : Type 0
 SentReadsBack =
     (e : End) (event : Event) (at : Reading) (given out q : List ℕ) (n : ℕ) → length q ≡ size
     → let r = stepped e event at given out q in
-    r.outcome.front ≡ message n → (m : Message) × (parse (take n r.out) ≡ WellFormed m)
+    r.outcome.front ≡ message n → (m : Message) × (parse (take n r.out) ≡ Some m)

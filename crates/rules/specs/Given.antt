@@ -1,6 +1,6 @@
 -- When the link says no: for each answer its condition, as docs/RULES.md has it. The order in which the rules test is not looked at here:
 -- each condition stands by itself, and no two of them hold at once.
-use Rattle.std.specs.Prelude.{ℕ, ◌^◌, ◌≤◌, ◌<◌, true, List, ◌⊎◌, ◌≡◌, length}
+use Rattle.std.specs.Prelude.{ℕ, ◌^◌, ◌≤◌, ◌<◌, true, List, ◌⊎◌, ◌≡◌, length, None, Some}
 use Rattle.judge.specs.Clock.{since_of, offsets_by, spread_of}
 use Rattle.judge.specs.Difference.{diff}
 use Rattle.judge.specs.declared.clock.Reading.{Reading}
@@ -10,7 +10,6 @@ use Rattle.wire.specs.declared.message.Header.{Header}
 use Rattle.wire.specs.declared.message.Body.{Body}
 use Rattle.wire.specs.declared.message.Body.TheVariants.{OffsetStart, OffsetAnsw1, OffsetAnsw2, OffsetEst, OffsetEnd, LifeSign, TrainData}
 use Rattle.wire.specs.declared.message.Message.{Message}
-use Rattle.wire.specs.declared.message.Parsed.TheVariants.{WellFormed, Malformed as unreadable}
 use Rattle.rules.specs.State.{phase_of, awaited_by}
 use Rattle.rules.specs.Hearing.{ahead_for, age_for}
 use Rattle.rules.specs.Decide.{least_room}
@@ -82,7 +81,7 @@ module _ (e : End) (event : Event) (at : Reading) (b : List ℕ) (room : ℕ) wh
   -- a well-formed message is judged
   pub record Reads (m : Message) : Type 0 where
     pub judged : Judged message
-    pub reads : parse b ≡ WellFormed m
+    pub reads : parse b ≡ Some m
 
   -- one of the awaited kind with d = 1 while starting; a kind 6 while Up
   pub record InStart (m : Message) : Type 0 where
@@ -122,7 +121,7 @@ module _ (e : End) (event : Event) (at : Reading) (b : List ℕ) (room : ℕ) wh
   Given NoRule = IsTaken e at room × HasNoRule
   Given BadLength = Judged Data × (e.life ≡ Up) × (HasGoodLength b → ⊥)
   Given QueueFull = Judged Data × (e.life ≡ Up) × HasGoodLength b × (e.line.busy ≡ true) × (places ≤ waiting_in e.ring)
-  Given Malformed = Judged message × (awaited_by e.life ≡ 0 → ⊥) × (parse b ≡ unreadable)
+  Given Malformed = Judged message × (awaited_by e.life ≡ 0 → ⊥) × (parse b ≡ None)
   Given NotAwaited =
       (m : Message) × Reads m
       × (((phase_of e.life ≡ starting) × (e.life ≡ Calling → ⊥)

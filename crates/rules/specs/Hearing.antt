@@ -1,5 +1,5 @@
 -- What a message comes to.
-use Rattle.std.specs.Prelude.{ℕ, ◌+◌, ◌-◌, Bool, true, false, cond, ltb, eqb}
+use Rattle.std.specs.Prelude.{ℕ, ◌+◌, ◌-◌, Bool, true, false, cond, ltb, eqb, None, Option, Some}
 use Rattle.judge.specs.Clock.{age_of, fresh_of}
 use Rattle.judge.specs.Sequence.{ahead_of, class_of}
 use Rattle.judge.specs.declared.clock.Reading.{Reading}
@@ -9,8 +9,6 @@ use Rattle.wire.specs.Message.{kind_of}
 use Rattle.wire.specs.declared.message.Header.{Header}
 use Rattle.wire.specs.declared.message.Body.{Body}
 use Rattle.wire.specs.declared.message.Body.TheVariants.{OffsetStart, OffsetAnsw1, OffsetAnsw2, OffsetEst, OffsetEnd, LifeSign, TrainData}
-use Rattle.wire.specs.declared.message.Parsed.{Parsed}
-use Rattle.wire.specs.declared.message.Parsed.TheVariants.{WellFormed, Malformed}
 use Rattle.rules.specs.State.{awaited_by}
 use Rattle.rules.specs.Starting.{in_turn, on_start, on_answer1, on_answer2, on_estimate, on_end}
 use Rattle.rules.specs.declared.answer.Answer.{Answer}
@@ -21,6 +19,7 @@ use Rattle.rules.specs.declared.act.ConnectionMove.TheVariants.{Fall}
 use Rattle.rules.specs.declared.act.Delivery.{Delivery}
 use Rattle.rules.specs.declared.act.Verdict.TheVariants.{Deliver, Report}
 use Rattle.rules.specs.declared.state.End.{End}
+use Rattle.wire.specs.declared.message.Message.{Message}
 
 -- ---- what a message is at an end
 
@@ -76,10 +75,10 @@ on_awaited e at h OffsetEnd = in_turn e h (on_end h)
 on_awaited e at h LifeSign = on_up_message e at h false
 on_awaited e at h TrainData = on_up_message e at h true
 
-abbrev pub on_parsed : End → Reading → Parsed → Act
-on_parsed e at (WellFormed m) =
+abbrev pub on_parsed : End → Reading → Option Message → Act
+on_parsed e at (Some m) =
     cond (eqb (kind_of m.body) (awaited_by e.life)) (on_awaited e at m.header m.body) (Note NotAwaited)
-on_parsed e at Malformed = Note malformed
+on_parsed e at None = Note malformed
 
-abbrev pub on_message : End → Reading → Parsed → Act
+abbrev pub on_message : End → Reading → Option Message → Act
 on_message e at p = cond (eqb (awaited_by e.life) 0) (Note NoRule) (on_parsed e at p)

@@ -1,10 +1,9 @@
 -- What each answer leaves: the last column of the table, said of what an event came to. Proofs: proofs/Leaves.antt.
-use Rattle.std.specs.Prelude.{ℕ, ◌+◌, Bool, true, false, cond, List, ◌≡◌, ltb}
+use Rattle.std.specs.Prelude.{ℕ, ◌+◌, Bool, true, false, cond, List, ◌≡◌, ltb, Some}
 use Rattle.judge.specs.declared.clock.Reading.{Reading}
 use Rattle.wire.specs.Message.{parse}
 use Rattle.wire.specs.declared.message.Body.TheVariants.{LifeSign, TrainData}
 use Rattle.wire.specs.declared.message.Header.{Header}
-use Rattle.wire.specs.declared.message.Parsed.TheVariants.{WellFormed}
 use Rattle.rules.specs.Answers.{leaves_of, Leaving}
 use Rattle.rules.specs.Answers.Leaving.{as_ruled, no_end, everything, new_reading, down, error_report, delivered}
 use Rattle.rules.specs.Ends.{was_up, moved_end, noted_end, fallen_end, no_flags, error_flag}
@@ -67,7 +66,7 @@ Left new_reading e at given out q r = r ≡ silently (noted_end e at) r.outcome.
 Left down e at given out q r = r ≡ went_down e at false r.outcome.answer out q
 Left error_report e at given out q r = r ≡ failed_once e at r.outcome.answer out q
 Left delivered e at given out q r =
-    (h : Header) × (train : Bool) × (parse given ≡ WellFormed (record { header = h; body = cond train TrainData LifeSign }))
+    (h : Header) × (train : Bool) × (parse given ≡ Some (record { header = h; body = cond train TrainData LifeSign }))
     × (r ≡ delivered_late e at h train r.outcome.answer given out q)
 
 abbrev pub LeavesAsTheTableSays : Type 0

@@ -1,35 +1,35 @@
-// What an end answers.
+// What an end answers, each with its number in the rules.
 
 #[derive(Clone, Copy)]
 pub enum Answer {
     // The event was handled.
-    Handled,
+    Handled = 0,
     // A setting is out of range: no end is made.
-    OutOfRange,
+    OutOfRange = 1,
     // The clock went back.
-    ClockBack,
+    ClockBack = 2,
     // The event has no rule in this state.
-    NoRule,
+    NoRule = 3,
     // User data of no bytes or of too many.
-    BadLength,
+    BadLength = 4,
     // User data must wait, and eight wait already.
-    QueueFull,
+    QueueFull = 5,
     // A message that is not well formed.
-    Malformed,
+    Malformed = 6,
     // Not the message that is awaited.
-    NotAwaited,
+    NotAwaited = 7,
     // Echo, spread or minimum wrong.
-    StartFailed,
+    StartFailed = 8,
     // A number that was accepted before, or is too far behind.
-    Old,
+    Old = 9,
     // Too many messages missing.
-    Lost,
+    Lost = 10,
     // Too old by the clock.
-    Late,
+    Late = 11,
     // Nothing heard, or no start, for too long.
-    Silent,
+    Silent = 12,
     // Delivered, with messages missing before it.
-    Gap,
+    Gap = 13,
     // The lent output is too short.
-    NoRoom,
+    NoRoom = 14,
 }

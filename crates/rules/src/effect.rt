@@ -59,10 +59,3 @@ pub struct Outcome {
     pub flags: Flags,
     pub answer: Answer,
 }
-
-// What making an end came to.
-#[derive(Clone, Copy)]
-pub enum Made {
-    Fresh(End),
-    Refused(Answer),
-}

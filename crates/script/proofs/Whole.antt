@@ -1,4 +1,5 @@
 -- A record that is not bad is whole, and what follows a whole record does not change the reply to it.
+use Rattle.std.specs.Prelude.{None, Option}
 use Prim.Native.Nat.{ℕ, ◌≤◌, ◌<◌}
 use native.Mathlib.Nat.{eq-zero-or-pos}
 use native.Mathlib.Omega.{arith}
@@ -12,30 +13,29 @@ use lib.Seq.{take_all, take-append-le, drop-append-le}
 use Rattle.script.specs.Forms.{size_in, cut, record_bytes, following, record_in}
 use Rattle.script.specs.Reply.{Held, record_reply, reply_to}
 use Rattle.script.specs.declared.record.Record.{Record}
-use Rattle.script.specs.declared.record.Record.TheVariants.{Bad}
 
 -- ---- a record that is not bad is whole
 
-no_size : (s : List ℕ) → size_in s ≡ 0 → record_in (record_bytes s) ≡ Bad
+no_size : (s : List ℕ) → size_in s ≡ 0 → record_in (record_bytes s) ≡ None
 unfolding record_in
 no_size s none = ap (λ (n : ℕ). record_in (take n s)) none
 
-too_short : (s : List ℕ) → cut s ≡ true → record_in (record_bytes s) ≡ Bad
+too_short : (s : List ℕ) → cut s ≡ true → record_in (record_bytes s) ≡ None
 unfolding record_in
 too_short s short =
     let less = ltb-true (length s) (size_in s) short in
     ap record_in (take_all (size_in s) s (omega (arith, less))) ∙ rw short refl
 
-bad_is_bad : (h : Held) (s : List ℕ) → record_in (record_bytes s) ≡ Bad → (reply_to h s).bad ≡ true
+bad_is_bad : (h : Held) (s : List ℕ) → record_in (record_bytes s) ≡ None → (reply_to h s).bad ≡ true
 unfolding reply_to
-bad_is_bad h s bad = ap (λ (r : Record). (record_reply h r (record_bytes s)).bad) bad
+bad_is_bad h s bad = ap (λ (r : Option Record). (record_reply h r (record_bytes s)).bad) bad
 
 is_false : (b : Bool) → (b ≡ true → ⊥) → b ≡ false
 is_false true never = absurd (never refl)
 is_false false never = refl
 
 module _ (h : Held) (s : List ℕ) (good : (reply_to h s).bad ≡ false) where
-  not_bad : record_in (record_bytes s) ≡ Bad → ⊥
+  not_bad : record_in (record_bytes s) ≡ None → ⊥
   not_bad bad = false≢true (sym good ∙ bad_is_bad h s bad)
 
   pub has_size : 0 < size_in s

@@ -1,18 +1,17 @@
 -- The kinds of records: one byte of kind fixes the length of a record and what its bytes say.
-use Rattle.std.specs.Prelude.{ℕ, ◌+◌, Bool, cond, List, [], ◌∷◌, ltb, length, get_or, take, drop}
+use Rattle.std.specs.Prelude.{ℕ, ◌+◌, Bool, cond, List, [], ◌∷◌, ltb, length, get_or, take, drop, None, Option}
 use Rattle.wire.specs.Table.{Row, lookup}
 use Rattle.rules.specs.declared.act.Event.{Event}
 use Rattle.rules.specs.declared.act.Event.TheVariants.{Tick, Connect, Confirm, Disconnect, Data, Message}
 use Rattle.script.specs.Record.{make_in, plain_in, lengthy_in}
 use Rattle.script.specs.declared.record.Record.{Record}
-use Rattle.script.specs.declared.record.Record.TheVariants.{Bad}
 
 -- the length of a whole record, and what its bytes say
 pub record Form : Type 0 where
   pub whole : ℕ
-  pub reads : List ℕ → Record
+  pub reads : List ℕ → Option Record
 
-abbrev pub form : ℕ → ℕ → (List ℕ → Record) → Row Form
+abbrev pub form : ℕ → ℕ → (List ℕ → Option Record) → Row Form
 form kind whole reads = record { key = kind; value = record { whole = whole; reads = reads } }
 
 -- a reading after the kind
@@ -44,7 +43,7 @@ forms =
 
 -- every other kind is bad, whatever follows
 abbrev pub other_form : Form
-other_form = record { whole = 0; reads = λ s. Bad }
+other_form = record { whole = 0; reads = λ s. None }
 
 abbrev pub form_of : ℕ → Form
 form_of kind = lookup forms kind other_form
@@ -66,5 +65,5 @@ abbrev pub following : List ℕ → List ℕ
 following s = drop (size_in s) s
 
 -- what it says; one that is cut is bad
-unfoldable pub record_in : List ℕ → Record
-record_in s = cond (cut s) Bad ((form_of (get_or s 0 0)).reads s)
+unfoldable pub record_in : List ℕ → Option Record
+record_in s = cond (cut s) None ((form_of (get_or s 0 0)).reads s)

@@ -1,10 +1,9 @@
 -- What a whole script prints.
-use Rattle.std.specs.Prelude.{ℕ, zero, suc, cond, List, [], ◌++◌, eqb, length, replicate}
+use Rattle.std.specs.Prelude.{ℕ, zero, suc, cond, List, [], ◌++◌, eqb, length, replicate, None}
 use Rattle.queue.specs.Ring.{size}
 use Rattle.rules.specs.Decide.{least_room}
 use Rattle.script.specs.Forms.{following}
 use Rattle.script.specs.Reply.{Held, Reply, reply_to}
-use Rattle.script.specs.declared.seat.Seat.TheVariants.{Empty}
 
 -- a reply's line, and then the rest; a bad record ends the script
 abbrev pub and_then : Reply → (Held → List ℕ) → List ℕ
@@ -22,7 +21,7 @@ printed_from h s = printed_by (length s) h s
 
 -- no end yet, a queue of zeros, and an output of the least room for every event
 abbrev pub at_first : Held
-at_first = record { seat = Empty; queue = replicate size 0; out = replicate least_room 0 }
+at_first = record { seat = None; queue = replicate size 0; out = replicate least_room 0 }
 
 -- from bytes to bytes
 abbrev pub printed : List ℕ → List ℕ

@@ -6,4 +6,3 @@
 
 pub mod record;
 pub mod reply;
-pub mod seat;

@@ -30,5 +30,4 @@ pub enum Record {
         at: Reading,
         given: Span,
     },
-    Bad,
 }

@@ -1,6 +1,6 @@
 // What the functions that answer records hand back. The lines stand in a lent text.
-use crate::seat::Seat;
 use rules::effect::ROOM;
+use rules::state::End;
 
 // The room that every line fits into.
 pub const LINE: usize = 2 * ROOM + 64;
@@ -8,7 +8,8 @@ pub const LINE: usize = 2 * ROOM + 64;
 // One record was answered.
 #[derive(Clone, Copy)]
 pub struct Replied {
-    pub seat: Seat,
+    // The end that the script speaks of; none before a valid make.
+    pub seat: Option<End>,
     // Where the line ends in the text.
     pub to: usize,
     // The record was bad, which ends the script.
@@ -18,7 +19,8 @@ pub struct Replied {
 // A piece of a script was played.
 #[derive(Clone, Copy)]
 pub struct Played {
-    pub seat: Seat,
+    // The end that the script speaks of; none before a valid make.
+    pub seat: Option<End>,
     // How many bytes of the piece were answered, and how many of the text were written.
     pub used: usize,
     pub wrote: usize,
@@ -29,7 +31,8 @@ pub struct Played {
 // What waited in the buffer of a program was played, as far as it went.
 #[derive(Clone, Copy)]
 pub struct Fed {
-    pub seat: Seat,
+    // The end that the script speaks of; none before a valid make.
+    pub seat: Option<End>,
     // How many bytes of the text are to be printed.
     pub wrote: usize,
     // Where the bytes of the buffer stand that are still to be played.

@@ -9,7 +9,6 @@ use player::feed::feed;
 use queue::BYTES;
 use rules::effect::ROOM;
 use script::reply::Next;
-use script::seat::Seat;
 use std::io;
 
 // How many bytes of the script, and how many of the text, are held at once.
@@ -21,7 +20,7 @@ fn main(rt: HostRuntime) -> io::Result<()> {
     let mut text = [0u8; LARGE];
     let mut out = [0u8; ROOM];
     let mut q = [0u8; BYTES];
-    let mut seat = Seat::Empty;
+    let mut seat = None;
     // The bytes of the input from `start` to `end` are still to be played; `over` says that no more come.
     let mut start = 0;
     let mut end = 0;

@@ -1,4 +1,5 @@
 -- Reading undoes writing, and writing undoes reading, for each body of a message.
+use Rattle.std.specs.Prelude.{Some}
 use Prim.Native.Nat.{ℕ, ◌+◌, ◌≤◌, ◌<◌}
 use native.Mathlib.Nat.{le_of_eq}
 use native.Mathlib.Omega.{arith}
@@ -16,7 +17,6 @@ use Rattle.wire.specs.declared.message.Header.{Header}
 use Rattle.wire.specs.declared.message.Body.{Body}
 use Rattle.wire.specs.declared.message.Body.TheVariants.{OffsetStart, OffsetAnsw1, OffsetAnsw2, OffsetEst, OffsetEnd, LifeSign, TrainData}
 use Rattle.wire.specs.declared.message.Message.{Message}
-use Rattle.wire.specs.declared.message.Parsed.TheVariants.{WellFormed}
 use Rattle.wire.proofs.Carrying.{carried_is}
 use Rattle.wire.proofs.Parsing.{ReadsAs, reads_as}
 use Rattle.wire.proofs.Digits.{read_writes, number_lt}
@@ -28,7 +28,7 @@ abbrev pub said : Header → Body → Message
 said h b = record { header = h; body = b }
 
 abbrev pub Back : Message → List ℕ → Type 0
-Back m d = (parse (encode m d) ≡ WellFormed m) × (carried m.body (train_in (encode m d)) ≡ carried m.body d)
+Back m d = (parse (encode m d) ≡ Some m) × (carried m.body (train_in (encode m d)) ≡ carried m.body d)
 
 -- bytes of kind 6 that end within the longest data are train data
 train_data_reads : (s : List ℕ) → 16 < length s → length s ≤ 16 + longest → get_or s 0 0 ≡ 6 → get_or s 15 0 ≡ 3
@@ -47,26 +47,26 @@ same_header kind h b q f = header_reads kind h q f.number f.sent f.echo f.receip
 
 pub reads_body : (h : Header) (b : Body) (d : List ℕ) → Fits (said h b) → carries b d ≡ true → Back (said h b) d
 unfolding encode header_bytes parse
-reads_body h OffsetStart d f ok = (ap (λ (x : Header). WellFormed (said x OffsetStart)) (same_header 1 h OffsetStart [] f), refl)
-reads_body h OffsetAnsw1 d f ok = (ap (λ (x : Header). WellFormed (said x OffsetAnsw1)) (same_header 2 h OffsetAnsw1 [] f), refl)
-reads_body h OffsetAnsw2 d f ok = (ap (λ (x : Header). WellFormed (said x OffsetAnsw2)) (same_header 3 h OffsetAnsw2 [] f), refl)
+reads_body h OffsetStart d f ok = (ap (λ (x : Header). Some (said x OffsetStart)) (same_header 1 h OffsetStart [] f), refl)
+reads_body h OffsetAnsw1 d f ok = (ap (λ (x : Header). Some (said x OffsetAnsw1)) (same_header 2 h OffsetAnsw1 [] f), refl)
+reads_body h OffsetAnsw2 d f ok = (ap (λ (x : Header). Some (said x OffsetAnsw2)) (same_header 3 h OffsetAnsw2 [] f), refl)
 reads_body h (OffsetEst mn mx) d f ok =
     let s = encode (said h (OffsetEst mn mx)) d in
     let a : number_at 4 s 15 ≡ mn.0 = field_reads 4 mn.0 s 15 f.body.0 refl in
     let b : number_at 4 s 19 ≡ mx.0 = field_reads 4 mx.0 s 19 f.body.1 refl in
     let c : header_in s ≡ h = same_header 4 h (OffsetEst mn mx) (bytes_of 4 mn.0 ++ bytes_of 4 mx.0) f in
-    (λ i. WellFormed (said (c i) (OffsetEst (record { 0 = a i }) (record { 0 = b i }))), refl)
-reads_body h OffsetEnd d f ok = (ap (λ (x : Header). WellFormed (said x OffsetEnd)) (same_header 5 h OffsetEnd [] f), refl)
-reads_body h LifeSign d f ok = (ap (λ (x : Header). WellFormed (said x LifeSign)) (same_header 6 h LifeSign (2 ∷ []) f), refl)
+    (λ i. Some (said (c i) (OffsetEst (record { 0 = a i }) (record { 0 = b i }))), refl)
+reads_body h OffsetEnd d f ok = (ap (λ (x : Header). Some (said x OffsetEnd)) (same_header 5 h OffsetEnd [] f), refl)
+reads_body h LifeSign d f ok = (ap (λ (x : Header). Some (said x LifeSign)) (same_header 6 h LifeSign (2 ∷ []) f), refl)
 reads_body h TrainData d f ok =
     let is = carried_is d ok in (
       train_data_reads (encode (said h TrainData) d) (omega arith) (omega arith) refl refl
-          ∙ ap (λ (x : Header). WellFormed (said x TrainData)) (same_header 6 h TrainData (3 ∷ d) f),
+          ∙ ap (λ (x : Header). Some (said x TrainData)) (same_header 6 h TrainData (3 ∷ d) f),
       refl,
     )
 
 -- whatever its fields, a message that can be carried is written as bytes that read as some message
-pub encode_parses : (h : Header) (b : Body) (d : List ℕ) → carries b d ≡ true → (m : Message) × (parse (encode (said h b) d) ≡ WellFormed m)
+pub encode_parses : (h : Header) (b : Body) (d : List ℕ) → carries b d ≡ true → (m : Message) × (parse (encode (said h b) d) ≡ Some m)
 unfolding encode header_bytes parse
 encode_parses h OffsetStart d ok = (_, refl)
 encode_parses h OffsetAnsw1 d ok = (_, refl)
@@ -140,7 +140,7 @@ reads_long s OffsetEnd r = omega arith
 reads_long s LifeSign r = omega arith
 reads_long s TrainData r = omega arith
 
-pub undone : (s : List ℕ) (m : Message) → AreBytes s → parse s ≡ WellFormed m → Fits m × (encode m (train_in s) ≡ s)
+pub undone : (s : List ℕ) (m : Message) → AreBytes s → parse s ≡ Some m → Fits m × (encode m (train_in s) ≡ s)
 undone s m bytes e =
     let i = reads_as s m e in
     let same = same_body s bytes m.body i.1 in

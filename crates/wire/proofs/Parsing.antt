@@ -1,4 +1,5 @@
 -- What holds of bytes that read as a message: the one walk through the tests of `parse`.
+use Rattle.std.specs.Prelude.{None, Option, Some}
 use Prim.Native.Nat.{ℕ, ◌+◌, ◌≤◌, ◌<◌}
 use native.Mathlib.Omega.{arith}
 use mathlib.Core.Bool.{true, cond}
@@ -13,8 +14,6 @@ use Rattle.wire.specs.Writing.{carries}
 use Rattle.wire.specs.declared.message.Body.{Body}
 use Rattle.wire.specs.declared.message.Body.TheVariants.{OffsetStart, OffsetAnsw1, OffsetAnsw2, OffsetEst, OffsetEnd, LifeSign, TrainData}
 use Rattle.wire.specs.declared.message.Message.{Message}
-use Rattle.wire.specs.declared.message.Parsed.{Parsed}
-use Rattle.wire.specs.declared.message.Parsed.TheVariants.{WellFormed, Malformed}
 use Rattle.wire.specs.declared.message.Shape.{Shape}
 use Rattle.wire.specs.declared.message.Shape.TheVariants.{Unknown}
 use Rattle.wire.proofs.Tests.{by_test}
@@ -33,10 +32,10 @@ ReadsAs s LifeSign = (get_or s 0 0 ≡ 6) × (length s ≡ 16) × (get_or s 15 0
 ReadsAs s TrainData = (get_or s 0 0 ≡ 6) × (16 < length s) × (length s ≤ 16 + longest) × (get_or s 15 0 ≡ 3)
 
 module _ (s : List ℕ) where
-  abbrev Walked : Parsed → Type 0
-  Walked r = (m : Message) → r ≡ WellFormed m → (m.header ≡ header_in s) × ReadsAs s m.body
+  abbrev Walked : Option Message → Type 0
+  Walked r = (m : Message) → r ≡ Some m → (m.header ≡ header_in s) × ReadsAs s m.body
 
-  malformed : Walked Malformed
+  malformed : Walked None
   malformed m e = let z : ◌≡◌ {A = ℕ} 0 1 = cc in absurd (omega arith)
 
   says : (b : Body) → ReadsAs s b → Walked (saying s b)
@@ -44,7 +43,7 @@ module _ (s : List ℕ) where
       let q : record { header = header_in s; body = b } ≡ m = cc in
       subst (λ (x : Message). (x.header ≡ header_in s) × ReadsAs s x.body) q (refl, ok)
 
-  exact : (n : ℕ) (b : Body) → (length s ≡ n → ReadsAs s b) → Walked (cond (eqb (length s) n) (saying s b) Malformed)
+  exact : (n : ℕ) (b : Body) → (length s ≡ n → ReadsAs s b) → Walked (cond (eqb (length s) n) (saying s b) None)
   exact n b ok = by_test Walked (eqb (length s) n) (λ e. says b (ok (eqb-true (length s) n e))) (λ e. malformed)
 
   payload : get_or s 0 0 ≡ 6 → Walked (payload_in s)
@@ -95,5 +94,5 @@ body_carried s OffsetEnd r = refl
 body_carried s LifeSign r = refl
 body_carried s TrainData r = is_carried (train_in s) (rw length-drop (omega arith)) (rw length-drop (omega arith))
 
-pub reads_carried : (s : List ℕ) (m : Message) → parse s ≡ WellFormed m → carries m.body (train_in s) ≡ true
+pub reads_carried : (s : List ℕ) (m : Message) → parse s ≡ Some m → carries m.body (train_in s) ≡ true
 reads_carried s m e = body_carried s m.body (reads_as s m e).1

@@ -1,5 +1,5 @@
 -- What is claimed of the bytes of the line. Each claim is a type here and has its proof in proofs/Claims.antt.
-use Rattle.std.specs.Prelude.{ℕ, ◌+◌, ◌^◌, ◌≤◌, ◌<◌, true, List, [], ◌≡◌, length}
+use Rattle.std.specs.Prelude.{ℕ, ◌+◌, ◌^◌, ◌≤◌, ◌<◌, true, List, [], ◌≡◌, length, Some}
 use Rattle.std.proofs.lemmas.List.Edits.{sets}
 use Rattle.wire.specs.Bytes.{bytes_of, number_at, AreBytes}
 use Rattle.wire.specs.Message.{encode, parse, train_in}
@@ -7,7 +7,6 @@ use Rattle.wire.specs.Writing.{carries}
 use Rattle.wire.specs.declared.message.Body.{Body}
 use Rattle.wire.specs.declared.message.Body.TheVariants.{OffsetStart, OffsetAnsw1, OffsetAnsw2, OffsetEst, OffsetEnd, LifeSign, TrainData}
 use Rattle.wire.specs.declared.message.Message.{Message}
-use Rattle.wire.specs.declared.message.Parsed.TheVariants.{WellFormed}
 
 -- ---- numbers, over the number n of their bytes
 
@@ -54,10 +53,10 @@ pub record Fits (m : Message) : Type 0 where
 abbrev pub ReadsBack : Type 0
 ReadsBack =
     (m : Message) (d : List ℕ) → Fits m → carries m.body d ≡ true
-    → (parse (encode m d) ≡ WellFormed m) × (carried m.body (train_in (encode m d)) ≡ carried m.body d)
+    → (parse (encode m d) ≡ Some m) × (carried m.body (train_in (encode m d)) ≡ carried m.body d)
 
 -- whatever is read can be written, and would be written with the same bytes
 abbrev pub WritesBack : Type 0
 WritesBack =
-    (s : List ℕ) (m : Message) → AreBytes s → parse s ≡ WellFormed m
+    (s : List ℕ) (m : Message) → AreBytes s → parse s ≡ Some m
     → Fits m × (carries m.body (train_in s) ≡ true) × (encode m (train_in s) ≡ s)

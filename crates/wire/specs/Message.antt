@@ -1,5 +1,5 @@
 -- What goes on the line: a message's fields, the bytes that write it, and what any list of bytes reads as.
-use Rattle.std.specs.Prelude.{ℕ, ◌+◌, cond, List, [], ◌∷◌, ◌++◌, ltb, leb, eqb, length, get_or, drop}
+use Rattle.std.specs.Prelude.{ℕ, ◌+◌, cond, List, [], ◌∷◌, ◌++◌, ltb, leb, eqb, length, get_or, drop, None, Option, Some}
 use Rattle.judge.specs.declared.clock.Reading.{Reading}
 use Rattle.judge.specs.declared.clock.Offset.{Offset}
 use Rattle.judge.specs.declared.clock.Stamps.{Stamps}
@@ -9,8 +9,6 @@ use Rattle.wire.specs.declared.message.Header.{Header}
 use Rattle.wire.specs.declared.message.Body.{Body}
 use Rattle.wire.specs.declared.message.Body.TheVariants.{OffsetStart, OffsetAnsw1, OffsetAnsw2, OffsetEst, OffsetEnd, LifeSign, TrainData}
 use Rattle.wire.specs.declared.message.Message.{Message}
-use Rattle.wire.specs.declared.message.Parsed.{Parsed}
-use Rattle.wire.specs.declared.message.Parsed.TheVariants.{WellFormed, Malformed}
 use Rattle.wire.specs.declared.message.Shape.{Shape}
 use Rattle.wire.specs.declared.message.Shape.TheVariants.{Bare, Offsets, Payload, Unknown}
 
@@ -67,8 +65,8 @@ abbrev pub header_in : List ℕ → Header
 header_in s = record { stamps = stamps_in s; number = number_at 2 s 1 }
 
 -- a message with the header of s
-abbrev pub saying : List ℕ → Body → Parsed
-saying s b = WellFormed (record { header = header_in s; body = b })
+abbrev pub saying : List ℕ → Body → Option Message
+saying s b = Some (record { header = header_in s; body = b })
 
 -- the kinds that there are
 abbrev pub bare : Body → Row Shape
@@ -84,21 +82,21 @@ abbrev pub shape_of : ℕ → Shape
 shape_of kind = lookup shapes kind Unknown
 
 -- one byte 2 is a life sign, a byte 3 with 1 to `longest` bytes after it is train data
-abbrev pub payload_in : List ℕ → Parsed
+abbrev pub payload_in : List ℕ → Option Message
 payload_in s =
-    cond (ltb (length s) 16) Malformed
-    (cond (eqb (length s) 16) (cond (eqb (get_or s 15 0) 2) (saying s LifeSign) Malformed)
-    (cond (leb (length s) (16 + longest)) (cond (eqb (get_or s 15 0) 3) (saying s TrainData) Malformed) Malformed))
+    cond (ltb (length s) 16) None
+    (cond (eqb (length s) 16) (cond (eqb (get_or s 15 0) 2) (saying s LifeSign) None)
+    (cond (leb (length s) (16 + longest)) (cond (eqb (get_or s 15 0) 3) (saying s TrainData) None) None))
 
 -- what bytes of a shape say, once there are as many as a header has
-abbrev pub body_in : Shape → List ℕ → Parsed
-body_in (Bare b) s = cond (eqb (length s) 15) (saying s b) Malformed
-body_in Offsets s = cond (eqb (length s) 23) (saying s (OffsetEst (offset_at s 15) (offset_at s 19))) Malformed
+abbrev pub body_in : Shape → List ℕ → Option Message
+body_in (Bare b) s = cond (eqb (length s) 15) (saying s b) None
+body_in Offsets s = cond (eqb (length s) 23) (saying s (OffsetEst (offset_at s 15) (offset_at s 19))) None
 body_in Payload s = payload_in s
-body_in Unknown s = Malformed
+body_in Unknown s = None
 
-unfoldable pub parse : List ℕ → Parsed
-parse s = cond (ltb (length s) 15) Malformed (body_in (shape_of (get_or s 0 0)) s)
+unfoldable pub parse : List ℕ → Option Message
+parse s = cond (ltb (length s) 15) None (body_in (shape_of (get_or s 0 0)) s)
 
 -- the train data of a message that carries some
 abbrev pub train_in : List ℕ → List ℕ

@@ -33,13 +33,6 @@ pub struct Message {
     pub body: Body,
 }
 
-// What any bytes come to.
-#[derive(Clone, Copy)]
-pub enum Parsed {
-    WellFormed(Message),
-    Malformed,
-}
-
 // What the first byte says of all that follows.
 #[derive(Clone, Copy)]
 pub enum Shape {

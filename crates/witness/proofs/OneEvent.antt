@@ -1,4 +1,5 @@
 -- The hypotheses, computed; what follows, by the claims.
+use Rattle.std.specs.Prelude.{Err, Ok}
 use Prim.Native.Nat.{ℕ}
 use mathlib.Core.List.{List, [], ◌∷◌, ◌++◌}
 use mathlib.Core.Path.{◌≡◌, refl, subst}
@@ -20,7 +21,6 @@ use Rattle.rules.specs.Leaves.{Left}
 use Rattle.rules.specs.Claims.{StepPromise, answer_of, IdleHoldsNothing}
 use Rattle.rules.specs.Perform.{performed}
 use Rattle.rules.specs.Step.{effect_of, stepped}
-use Rattle.rules.specs.declared.effect.Made.TheVariants.{Fresh, Refused}
 use Rattle.run.specs.Run.{Call, came_to, after}
 use Rattle.run.proofs.Lasting.{run_lasts}
 use Rattle.witness.specs.Ends.{settings, initiator, reading, roomy, tick, cramped_tick, user, comes, bare, life_sign}
@@ -41,8 +41,8 @@ ask_is_promised =
 
 pub ends_are_promised : EndsArePromised
 ends_are_promised = (
-  (refl, λ n promise. one_end Initiator (reading 100) settings n (Fresh fresh) promise refl),
-  (refl, λ n promise. one_end Initiator (reading 100) unsettled n (Refused OutOfRange) promise refl),
+  (refl, λ n promise. one_end Initiator (reading 100) settings n (Ok fresh) promise refl),
+  (refl, λ n promise. one_end Initiator (reading 100) unsettled n (Err OutOfRange) promise refl),
 )
 
 -- ---- what the answers leave

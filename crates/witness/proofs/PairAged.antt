@@ -1,4 +1,5 @@
 -- Figures of one letter, and what follows from them by the claims of age, at either side of any run.
+use Rattle.std.specs.Prelude.{Some}
 use Prim.Native.Nat.{ℕ}
 use mathlib.Core.Bool.{true}
 use mathlib.Core.List.{List, ◌∷◌}
@@ -6,7 +7,6 @@ use mathlib.Core.Path.{◌≡◌}
 use Rattle.wire.specs.Message.{parse}
 use Rattle.wire.specs.declared.message.Header.{Header}
 use Rattle.wire.specs.declared.message.Body.TheVariants.{TrainData}
-use Rattle.wire.specs.declared.message.Parsed.TheVariants.{WellFormed}
 use Rattle.rules.specs.declared.state.Life.TheVariants.{Up}
 use Rattle.pair.specs.World.{Letter, Side, World, true_age}
 use Rattle.rules.specs.Claims.{answer_of}
@@ -23,7 +23,7 @@ use Rattle.witness.proofs.PairLawful.{may_hand_over, may_hand_over_lem, is_lawfu
 pub record Figures (w : World) (to from : Side) (m : Letter) (h : Header) (age computed spread : ℕ) : Type 0 where
   pub may : may_hand_over w.time to from m ≡ true
   pub up : to.end.life ≡ Up
-  pub reads : parse m.bytes ≡ WellFormed (record { header = h; body = TrainData })
+  pub reads : parse m.bytes ≡ Some (record { header = h; body = TrainData })
   pub true_is : true_age m w.time ≡ age
   pub computed_is : computed_age w to h ≡ computed
   pub spread_is : measured_spread to ≡ spread

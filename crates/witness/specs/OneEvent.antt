@@ -1,9 +1,8 @@
 -- Events at which the claims of one event say something: refusals, ends that hold nothing, and each move of the queue.
-use Rattle.std.specs.Prelude.{ℕ, true, false, List, [], ◌∷◌, ◌++◌, ◌⊎◌, ◌≡◌, length, take}
+use Rattle.std.specs.Prelude.{ℕ, true, false, List, [], ◌∷◌, ◌++◌, ◌⊎◌, ◌≡◌, length, take, Err, Ok, Some}
 use Rattle.queue.specs.Ring.{size, empty_ring, entries}
 use Rattle.wire.specs.Message.{parse}
 use Rattle.wire.specs.declared.message.Message.{Message}
-use Rattle.wire.specs.declared.message.Parsed.TheVariants.{WellFormed}
 use Rattle.rules.specs.State.{blank_line}
 use Rattle.rules.specs.declared.act.Event.TheVariants.{Tick}
 use Rattle.rules.specs.declared.answer.Answer.TheVariants.{Handled, OutOfRange}
@@ -15,12 +14,10 @@ use Rattle.rules.specs.Answers.{leaves_of, Leaving}
 use Rattle.rules.specs.Answers.Leaving.{everything, new_reading, down, error_report, delivered}
 use Rattle.rules.specs.Leaves.{Left}
 use Rattle.rules.specs.Claims.{StepPromise, MakePromise, answer_of, IdleHoldsNothing}
-use Rattle.rules.specs.Make.{fresh_end, made_of}
+use Rattle.rules.specs.Make.{Made, fresh_end, made_of}
 use Rattle.rules.specs.Ends.{asked_end}
 use Rattle.rules.specs.Step.{Result}
 use Rattle.rules.specs.declared.effect.Front.TheVariants.{Nothing as none, Message as message}
-use Rattle.rules.specs.declared.effect.Made.{Made}
-use Rattle.rules.specs.declared.effect.Made.TheVariants.{Fresh, Refused}
 use Rattle.run.specs.Run.{Call, came_to}
 use Rattle.witness.specs.Ends.{settings, initiator, reading, roomy, tick, cramped_tick, user, comes, bare, life_sign}
 use Rattle.witness.specs.Table.{Row, left}
@@ -59,7 +56,7 @@ OnlyMakes settings m =
     MakePromise Initiator (reading 100) settings m × ((n : Made) → MakePromise Initiator (reading 100) settings n → n ≡ m)
 
 abbrev pub EndsArePromised : Type 0
-EndsArePromised = OnlyMakes settings (Fresh fresh) × OnlyMakes unsettled (Refused OutOfRange)
+EndsArePromised = OnlyMakes settings (Ok fresh) × OnlyMakes unsettled (Err OutOfRange)
 
 -- ---- what the answers leave, one for each entry of the table's last column: `LeavesAsTheTableSays`
 
@@ -92,13 +89,13 @@ abbrev pub SentIsRead : Type 0
 SentIsRead =
     let k = left initiator until_full in
     let r = came_to k (tick 129) in
-    (length k.queue ≡ size) × (r.outcome.front ≡ message 17) × ((m : Message) × (parse (take 17 r.out) ≡ WellFormed m))
+    (length k.queue ≡ size) × (r.outcome.front ≡ message 17) × ((m : Message) × (parse (take 17 r.out) ≡ Some m))
 
 -- ---- an Idle end holds nothing of a connection: `FreshHoldsNothing` and `StepHoldsNothing`
 
 abbrev pub FreshIsBlank : Type 0
 FreshIsBlank =
-    (made_of Initiator (reading 100) settings ≡ Fresh fresh) × (fresh.life ≡ Idle)
+    (made_of Initiator (reading 100) settings ≡ Ok fresh) × (fresh.life ≡ Idle)
     × ((fresh.line ≡ blank_line) × (fresh.ring ≡ empty_ring))
 
 -- an end that is Up, has failed once and has data waiting goes down

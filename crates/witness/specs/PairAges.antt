@@ -1,9 +1,8 @@
 -- The long run meets the claims of age: messages are judged by ends that are Up, before and after a clock wraps, and one is late.
-use Rattle.std.specs.Prelude.{ℕ, ◌≡◌}
+use Rattle.std.specs.Prelude.{ℕ, ◌≡◌, Some}
 use Rattle.wire.specs.Message.{parse}
 use Rattle.wire.specs.declared.message.Header.{Header}
 use Rattle.wire.specs.declared.message.Body.TheVariants.{TrainData}
-use Rattle.wire.specs.declared.message.Parsed.TheVariants.{WellFormed}
 use Rattle.rules.specs.declared.state.Life.TheVariants.{Up}
 use Rattle.pair.specs.Among.{Among}
 use Rattle.pair.specs.World.{Letter, Delivery, Side, World, clock_of, true_age}
@@ -23,7 +22,7 @@ use Rattle.witness.specs.PairOrder.{ended}
 pub record Aged (w : World) (to from : Side) (m : Letter) (h : Header) (age computed spread : ℕ) : Type 0 where
   pub may : MayHandOver w.time to from m
   pub up : to.end.life ≡ Up
-  pub reads : parse m.bytes ≡ WellFormed (record { header = h; body = TrainData })
+  pub reads : parse m.bytes ≡ Some (record { header = h; body = TrainData })
   pub true_is : true_age m w.time ≡ age
   pub computed_is : computed_age w to h ≡ computed
   pub spread_is : measured_spread to ≡ spread

@@ -1,5 +1,5 @@
 -- Bytes and messages that read and write back.
-use Rattle.std.specs.Prelude.{ℕ, ◌+◌, ◌^◌, ◌≤◌, ◌<◌, true, List, [], ◌∷◌, ◌≡◌, length}
+use Rattle.std.specs.Prelude.{ℕ, ◌+◌, ◌^◌, ◌≤◌, ◌<◌, true, List, [], ◌∷◌, ◌≡◌, length, Some}
 use Rattle.std.proofs.lemmas.List.Edits.{sets}
 use Rattle.judge.specs.declared.clock.Offset.{Offset}
 use Rattle.wire.specs.Bytes.{bytes_of, number_at, AreBytes}
@@ -9,7 +9,6 @@ use Rattle.wire.specs.Claims.{Fits, carried}
 use Rattle.wire.specs.declared.message.Body.{Body}
 use Rattle.wire.specs.declared.message.Body.TheVariants.{OffsetStart, OffsetAnsw1, OffsetAnsw2, OffsetEst, OffsetEnd, LifeSign, TrainData}
 use Rattle.wire.specs.declared.message.Message.{Message}
-use Rattle.wire.specs.declared.message.Parsed.TheVariants.{WellFormed}
 use Rattle.witness.specs.Ends.{stamped}
 
 -- ---- a number: `NumberReadsBack` and `NumberWritesBack`
@@ -46,7 +45,7 @@ pair = 7 ∷ 8 ∷ []
 abbrev pub BodyReadsBack : Body → Type 0
 BodyReadsBack body =
     Fits (message_of body) × (carries body pair ≡ true)
-    × ((parse (encode (message_of body) pair) ≡ WellFormed (message_of body)) × (carried body (train_in (encode (message_of body) pair)) ≡ carried body pair))
+    × ((parse (encode (message_of body) pair) ≡ Some (message_of body)) × (carried body (train_in (encode (message_of body) pair)) ≡ carried body pair))
 
 abbrev pub EachReadsBack : Type 0
 EachReadsBack =
@@ -62,5 +61,5 @@ eighteen = 6 ∷ 1 ∷ 2 ∷ 0 ∷ 0 ∷ 0 ∷ 70 ∷ 0 ∷ 0 ∷ 0 ∷ 115 ∷ 
 
 abbrev pub EighteenWriteBack : Type 0
 EighteenWriteBack =
-    AreBytes eighteen × (parse eighteen ≡ WellFormed (message_of TrainData))
+    AreBytes eighteen × (parse eighteen ≡ Some (message_of TrainData))
     × (Fits (message_of TrainData) × (carries TrainData (train_in eighteen) ≡ true) × (encode (message_of TrainData) (train_in eighteen) ≡ eighteen))
