@@ -22,17 +22,17 @@ pub fn kind_of(body: Body) -> u8
     }
 }
 
-// What a first byte says of all that follows it.
-pub fn shape_of(kind: u8) -> Shape
+// What a first byte says of all that follows it, or none where there is no such kind.
+pub fn shape_of(kind: u8) -> Option<Shape>
     ensures { result ≡ shape_of kind }
 {
     match kind {
-        1 => Shape::Bare(Body::OffsetStart),
-        2 => Shape::Bare(Body::OffsetAnsw1),
-        3 => Shape::Bare(Body::OffsetAnsw2),
-        4 => Shape::Offsets,
-        5 => Shape::Bare(Body::OffsetEnd),
-        6 => Shape::Payload,
-        _ => Shape::Unknown,
+        1 => Some(Shape::Bare(Body::OffsetStart)),
+        2 => Some(Shape::Bare(Body::OffsetAnsw1)),
+        3 => Some(Shape::Bare(Body::OffsetAnsw2)),
+        4 => Some(Shape::Offsets),
+        5 => Some(Shape::Bare(Body::OffsetEnd)),
+        6 => Some(Shape::Payload),
+        _ => None,
     }
 }

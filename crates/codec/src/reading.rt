@@ -8,6 +8,7 @@ use judge::clock::{Offset, Reading, Stamps};
 use wire::message::{Body, Header, LONGEST, Message, Shape};
 
 // The message that bytes say, or none where they are malformed.
+#[tactic(auto, unfolding(wire::specs::Message::parse))]
 pub fn read_message(s: &[u8]) -> Option<Message>
     ensures { result ≡ parse s.now }
 {
@@ -15,7 +16,7 @@ pub fn read_message(s: &[u8]) -> Option<Message>
         return None;
     }
     let kind = s[0];
-    read_body(s, shape_of(kind))
+    read_body(s, shape_of(kind)?)
 }
 
 // The train data of a message that carries some, as a part of its bytes.
@@ -36,7 +37,6 @@ fn read_body(s: &[u8], shape: Shape) -> Option<Message>
         Shape::Bare(body) => read_bare(s, body),
         Shape::Offsets => read_offsets(s),
         Shape::Payload => read_payload(s),
-        Shape::Unknown => None,
     }
 }
 

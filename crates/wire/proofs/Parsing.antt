@@ -1,5 +1,5 @@
 -- What holds of bytes that read as a message: the one walk through the tests of `parse`.
-use Rattle.std.specs.Prelude.{None, Option, Some}
+use Rattle.std.specs.Prelude.{None, Option, Some, option_and_then}
 use Prim.Native.Nat.{ℕ, ◌+◌, ◌≤◌, ◌<◌}
 use native.Mathlib.Omega.{arith}
 use mathlib.Core.Bool.{true, cond}
@@ -15,7 +15,6 @@ use Rattle.wire.specs.declared.message.Body.{Body}
 use Rattle.wire.specs.declared.message.Body.TheVariants.{OffsetStart, OffsetAnsw1, OffsetAnsw2, OffsetEst, OffsetEnd, LifeSign, TrainData}
 use Rattle.wire.specs.declared.message.Message.{Message}
 use Rattle.wire.specs.declared.message.Shape.{Shape}
-use Rattle.wire.specs.declared.message.Shape.TheVariants.{Unknown}
 use Rattle.wire.proofs.Tests.{by_test}
 use Rattle.wire.proofs.Carrying.{is_carried}
 use Rattle.wire.proofs.Table.{by_row}
@@ -64,9 +63,9 @@ module _ (s : List ℕ) where
       (λ h. malformed))
       (λ g. malformed)))
 
-  of_kind : Walked (body_in (shape_of (get_or s 0 0)) s)
+  of_kind : Walked (option_and_then (λ x. body_in x s) (shape_of (get_or s 0 0)))
   of_kind =
-      by_row (λ (kind : ℕ) (x : Shape). Walked (body_in x s)) shapes (get_or s 0 0) Unknown (
+      by_row (λ (kind : ℕ) (x : Option Shape). Walked (option_and_then (λ x. body_in x s) x)) shapes (get_or s 0 0) None (
         λ is. exact 15 OffsetStart (λ e. (is, e)),
         λ _. (
           λ is. exact 15 OffsetAnsw1 (λ e. (is, e)),

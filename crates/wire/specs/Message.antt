@@ -1,5 +1,5 @@
 -- What goes on the line: a message's fields, the bytes that write it, and what any list of bytes reads as.
-use Rattle.std.specs.Prelude.{ℕ, ◌+◌, cond, List, [], ◌∷◌, ◌++◌, ltb, leb, eqb, length, get_or, drop, None, Option, Some}
+use Rattle.std.specs.Prelude.{ℕ, ◌+◌, cond, List, [], ◌∷◌, ◌++◌, ltb, leb, eqb, length, get_or, drop, None, Option, Some, option_and_then}
 use Rattle.judge.specs.declared.clock.Reading.{Reading}
 use Rattle.judge.specs.declared.clock.Offset.{Offset}
 use Rattle.judge.specs.declared.clock.Stamps.{Stamps}
@@ -10,7 +10,7 @@ use Rattle.wire.specs.declared.message.Body.{Body}
 use Rattle.wire.specs.declared.message.Body.TheVariants.{OffsetStart, OffsetAnsw1, OffsetAnsw2, OffsetEst, OffsetEnd, LifeSign, TrainData}
 use Rattle.wire.specs.declared.message.Message.{Message}
 use Rattle.wire.specs.declared.message.Shape.{Shape}
-use Rattle.wire.specs.declared.message.Shape.TheVariants.{Bare, Offsets, Payload, Unknown}
+use Rattle.wire.specs.declared.message.Shape.TheVariants.{Bare, Offsets, Payload}
 
 -- the longest train data of one message
 abbrev pub longest : ℕ
@@ -69,17 +69,17 @@ abbrev pub saying : List ℕ → Body → Option Message
 saying s b = Some (record { header = header_in s; body = b })
 
 -- the kinds that there are
-abbrev pub bare : Body → Row Shape
-bare b = record { key = kind_of b; value = Bare b }
+abbrev pub bare : Body → Row (Option Shape)
+bare b = record { key = kind_of b; value = Some (Bare b) }
 
-abbrev pub shapes : List (Row Shape)
+abbrev pub shapes : List (Row (Option Shape))
 shapes =
-    bare OffsetStart ∷ bare OffsetAnsw1 ∷ bare OffsetAnsw2 ∷ record { key = 4; value = Offsets } ∷ bare OffsetEnd
-    ∷ record { key = 6; value = Payload } ∷ []
+    bare OffsetStart ∷ bare OffsetAnsw1 ∷ bare OffsetAnsw2 ∷ record { key = 4; value = Some Offsets } ∷ bare OffsetEnd
+    ∷ record { key = 6; value = Some Payload } ∷ []
 
--- every other kind is unknown
-abbrev pub shape_of : ℕ → Shape
-shape_of kind = lookup shapes kind Unknown
+-- every other kind has no shape
+abbrev pub shape_of : ℕ → Option Shape
+shape_of kind = lookup shapes kind None
 
 -- one byte 2 is a life sign, a byte 3 with 1 to `longest` bytes after it is train data
 abbrev pub payload_in : List ℕ → Option Message
@@ -93,10 +93,9 @@ abbrev pub body_in : Shape → List ℕ → Option Message
 body_in (Bare b) s = cond (eqb (length s) 15) (saying s b) None
 body_in Offsets s = cond (eqb (length s) 23) (saying s (OffsetEst (offset_at s 15) (offset_at s 19))) None
 body_in Payload s = payload_in s
-body_in Unknown s = None
 
 unfoldable pub parse : List ℕ → Option Message
-parse s = cond (ltb (length s) 15) None (body_in (shape_of (get_or s 0 0)) s)
+parse s = cond (ltb (length s) 15) None (option_and_then (λ x. body_in x s) (shape_of (get_or s 0 0)))
 
 -- the train data of a message that carries some
 abbrev pub train_in : List ℕ → List ℕ

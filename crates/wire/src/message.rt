@@ -33,7 +33,7 @@ pub struct Message {
     pub body: Body,
 }
 
-// What the first byte says of all that follows.
+// What the first byte says of all that follows, where it is a kind that there is.
 #[derive(Clone, Copy)]
 pub enum Shape {
     // Nothing after the header.
@@ -42,5 +42,4 @@ pub enum Shape {
     Offsets,
     // A life sign or train data after the header.
     Payload,
-    Unknown,
 }
