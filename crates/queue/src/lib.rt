@@ -12,7 +12,7 @@ pub const SLOT: usize = 2 + LONGEST;
 // A whole queue.
 pub const BYTES: usize = PLACES as usize * SLOT;
 
-// Which place is the oldest, and how many wait.
+// Which place is the oldest, and how many wait. No VecDeque: memory is fixed, and the end holds no heap.
 #[derive(Clone, Copy)]
 pub struct Ring {
     pub head: u8,

@@ -78,7 +78,7 @@ pub struct Delivery {
     pub train: bool,
 }
 
-// What is made of a message while Up.
+// What is made of a message while Up. It is no Result: a report is carried out like a delivery, and no call fails.
 #[derive(Clone, Copy)]
 pub enum Verdict {
     // After a gap with an error report.

@@ -18,7 +18,7 @@ pub struct Flags {
     pub down: bool,
 }
 
-// What is to be done with bytes.
+// What is to be done with bytes. Nothing is one of six cases that are all carried out: an Option of five is no plainer.
 #[derive(Clone, Copy)]
 pub enum Placing {
     Nothing,
@@ -43,7 +43,8 @@ pub struct Effect {
     pub answer: Answer,
 }
 
-// What stands at the front of the lent output, and how many bytes it has.
+// What stands at the front of the lent output, and how many bytes it has. Nothing is a third kind of front here:
+// an Option of the other two is no plainer.
 #[derive(Clone, Copy)]
 pub enum Front {
     Nothing,

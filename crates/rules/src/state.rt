@@ -70,7 +70,8 @@ pub struct Line {
     pub busy: bool,
 }
 
-// When an initiator last asked, and whether it may ask again without waiting.
+// When an initiator last asked, and whether it may ask again without waiting. No Option: when it last asked is kept
+// in both cases.
 #[derive(Clone, Copy)]
 pub struct Asking {
     pub when: Reading,

@@ -10,7 +10,7 @@ pub const DATA_FIELD: usize = 100;
 
 pub const MESSAGE_FIELD: usize = 128;
 
-// So many bytes of a record, from a place on.
+// So many bytes of a record, from a place on. No slice, since the law says a record as a value (`Forms.record_in`).
 #[derive(Clone, Copy)]
 pub struct Span {
     pub from: usize,

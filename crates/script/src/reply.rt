@@ -5,7 +5,7 @@ use rules::state::End;
 // The room that every line fits into.
 pub const LINE: usize = 2 * ROOM + 64;
 
-// One record was answered.
+// One record was answered. No Result: seat and line hold for a bad record too.
 #[derive(Clone, Copy)]
 pub struct Replied {
     // The end that the script speaks of; none before a valid make.
@@ -16,7 +16,7 @@ pub struct Replied {
     pub bad: bool,
 }
 
-// A piece of a script was played.
+// A piece of a script was played. No Result: all that was played before a bad record holds.
 #[derive(Clone, Copy)]
 pub struct Played {
     // The end that the script speaks of; none before a valid make.
@@ -28,7 +28,8 @@ pub struct Played {
     pub ended: bool,
 }
 
-// What waited in the buffer of a program was played, as far as it went.
+// What waited in the buffer of a program was played, as far as it went. Numbers and not slices, since what they
+// count is lent by the caller and the law says them (`Promise.Feeds`).
 #[derive(Clone, Copy)]
 pub struct Fed {
     // The end that the script speaks of; none before a valid make.
