@@ -10,7 +10,7 @@ ghost use Rattle.rules.specs.Decide.{on_event, decide_of};
 use crate::hearing::on_message;
 use crate::living::{falls_silent, is_overdue, on_confirm, on_connect, on_disconnect, phase_of};
 use crate::speaking::{on_data, on_tick};
-use judge::clock::{Reading, went_back};
+use judge::clock::Reading;
 use rules::act::{Act, Event};
 use rules::answer::Answer;
 use rules::effect::ROOM;
@@ -24,7 +24,7 @@ pub fn decide(e: End, event: Event, at: Reading, bytes: &[u8], room: usize) -> A
     if room < ROOM {
         return Act::Stay(Answer::NoRoom);
     }
-    if went_back(at, last) {
+    if at.went_back(last) {
         return Act::Stay(Answer::ClockBack);
     }
     on_event(e, event, at, bytes)

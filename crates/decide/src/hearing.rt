@@ -7,7 +7,7 @@ use crate::living::awaited;
 use crate::starting::{in_turn, on_answer1, on_answer2, on_end, on_estimate, on_start};
 use codec::kind::kind_of;
 use codec::reading::read_message;
-use judge::clock::{Reading, age, is_fresh};
+use judge::clock::Reading;
 use judge::sequence::{Class, ahead, classify};
 use rules::act::{Act, ConnectionMove, Delivery, Verdict};
 use rules::answer::Answer;
@@ -95,7 +95,7 @@ fn on_age(e: End, at: Reading, h: Header, train: bool) -> Act
     let offsets = line.offsets;
     let stamps = h.stamps;
     let settings = e.settings;
-    if is_fresh(at, stamps.sent, offsets, settings.age) {
+    if offsets.is_fresh(at, stamps.sent, settings.age) {
         let d = delivery_of(e, at, h, train);
         return Act::Hear(Verdict::Deliver(d));
     }
@@ -109,7 +109,7 @@ fn delivery_of(e: End, at: Reading, h: Header, train: bool) -> Delivery
     let numbers = line.numbers;
     let offsets = line.offsets;
     let stamps = h.stamps;
-    let old = age(at, stamps.sent, offsets);
+    let old = offsets.age(at, stamps.sent);
     let skipped = skipped_by(ahead(h.number, numbers.last));
     Delivery {
         header: h,

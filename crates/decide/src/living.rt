@@ -5,7 +5,7 @@ ghost use Rattle.rules.specs.State.{phase_of, awaited_by};
 ghost use Rattle.rules.specs.Living.{overdue, falls_silent, on_connect, on_disconnect, on_confirm, may_ask, on_idle_tick};
 
 use codec::kind::kind_of;
-use judge::clock::{Offset, Reading, has_passed};
+use judge::clock::{Offset, Reading};
 use rules::act::{Act, ConnectionMove, Exchange};
 use rules::answer::Answer;
 use rules::state::{End, Life, Phase, Role};
@@ -57,8 +57,8 @@ pub fn is_overdue(e: End, at: Reading) -> bool
     let now = phase_of(life);
     match now {
         Phase::Idle => false,
-        Phase::Starting => has_passed(at, line.began, settings.wait),
-        Phase::Up => has_passed(at, times.heard, settings.silence),
+        Phase::Starting => at.has_passed(line.began, settings.wait),
+        Phase::Up => at.has_passed(times.heard, settings.silence),
     }
 }
 
@@ -114,7 +114,7 @@ fn may_ask(e: End, at: Reading) -> bool
     if asking.at_once {
         return true;
     }
-    has_passed(at, asking.when, settings.retry)
+    at.has_passed(asking.when, settings.retry)
 }
 
 pub fn on_idle_tick(e: End, at: Reading) -> Act

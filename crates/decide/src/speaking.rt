@@ -4,7 +4,7 @@ ghost use Rattle.rules.specs.State.{phase_of};
 ghost use Rattle.rules.specs.Speaking.{life_sign_due, on_up_tick, sendable, on_up_data, on_tick, on_data};
 
 use crate::living::{on_idle_tick, phase_of};
-use judge::clock::{Reading, has_passed};
+use judge::clock::Reading;
 use queue::PLACES;
 use rules::act::{Act, Speech};
 use rules::answer::Answer;
@@ -43,7 +43,7 @@ fn is_life_sign_due(e: End, at: Reading) -> bool
     let line = e.line;
     let times = line.times;
     let settings = e.settings;
-    has_passed(at, times.said, settings.life_sign)
+    at.has_passed(times.said, settings.life_sign)
 }
 
 // The oldest that waits, or a life sign after S ticks, or nothing.

@@ -2,7 +2,7 @@
 ghost use Rattle.std.specs.Prelude.{◌≡◌};
 ghost use Rattle.rules.specs.Starting.{next_for, in_turn, start_fails, offsets_from, measures, swap_of, measurement_of, estimate_of, on_start, on_answer1, on_answer2, on_estimate, on_end};
 
-use judge::clock::{Offset, Offsets, Reading, is_narrow, is_opposed, is_same, offsets_by};
+use judge::clock::{Offset, Offsets, Reading};
 use judge::sequence::is_next;
 use rules::act::{Act, ConnectionMove, Exchange, Measurement, Swap};
 use rules::answer::Answer;
@@ -35,7 +35,7 @@ fn offsets_from(h: Header, at: Reading) -> Offsets
     ensures { result ≡ offsets_from h at }
 {
     let stamps = h.stamps;
-    offsets_by(stamps, at)
+    Offsets::by(stamps, at)
 }
 
 // Whether the echo is what was sent, and the spread at most W.
@@ -46,8 +46,8 @@ fn does_measure(e: End, at: Reading, h: Header) -> bool
     let own = line.offsets;
     let stamps = h.stamps;
     let settings = e.settings;
-    if is_same(stamps.echo, own.since) {
-        return is_narrow(offsets_from(h, at), settings.spread);
+    if stamps.echo == own.since {
+        return offsets_from(h, at).is_narrow(settings.spread);
     }
     false
 }
@@ -112,7 +112,7 @@ pub fn on_estimate(e: End, h: Header, minimum: Offset) -> Act
 {
     let line = e.line;
     let own = line.offsets;
-    if is_opposed(minimum, own.maximum) {
+    if minimum.is_opposed(own.maximum) {
         let swap = swap_of(h, Body::OffsetEnd);
         return Act::Start(Exchange::Finish(swap));
     }

@@ -1,16 +1,59 @@
 // Clock readings, offsets between two clocks, and what is judged from them.
-ghost use Rattle.std.specs.Prelude.{◌≡◌};
-ghost use Rattle.judge.specs.Clock.{since_of, back_of, passed_of, same_of, offset_of, opposed_of, offsets_by, spread_of, narrow_of, age_of, fresh_of};
+#![tactic(auto, unfolding(crate::specs::Difference::diff))]
 
-use std::num::wrapping_sub_u32;
+ghost use Rattle.std.specs.Prelude.{◌≡◌};
+ghost use Rattle.judge.specs.Clock.{since_of, back_of, passed_of, offset_of, opposed_of, offsets_by, spread_of, narrow_of, age_of, fresh_of};
+
+// Half of the readings.
+const HALF: u32 = 1 << 31;
 
 // What one clock shows, in ticks. It wraps.
-#[derive(Clone, Copy)]
+#[derive(Clone, Copy, PartialEq, Eq)]
 pub struct Reading(pub u32);
 
+impl Reading {
+    // The ticks from `then` to this.
+    pub fn since(self, then: Reading) -> u32
+        ensures { result ≡ since_of self then }
+    {
+        self.0.wrapping_sub(then.0)
+    }
+
+    // Whether a clock that showed `last` went back when it shows this: whether this is half the range
+    // or more past it.
+    pub fn went_back(self, last: Reading) -> bool
+        ensures { result ≡ back_of self last }
+    {
+        HALF <= self.since(last)
+    }
+
+    // Whether `limit` ticks or more have passed from `then` to this.
+    pub fn has_passed(self, then: Reading, limit: u32) -> bool
+        ensures { result ≡ passed_of self then limit }
+    {
+        limit <= self.since(then)
+    }
+}
+
 // By how much one clock is ahead of another, in ticks. It wraps, and it is no reading.
-#[derive(Clone, Copy)]
+#[derive(Clone, Copy, PartialEq, Eq)]
 pub struct Offset(pub u32);
+
+impl Offset {
+    // An own reading less one of the peer's.
+    pub fn between(own: Reading, peer: Reading) -> Offset
+        ensures { result ≡ offset_of own peer }
+    {
+        Offset(own.0.wrapping_sub(peer.0))
+    }
+
+    // Whether this is 0 less the other.
+    pub fn is_opposed(self, other: Offset) -> bool
+        ensures { result ≡ opposed_of self other }
+    {
+        self.0 == other.0.wrapping_neg()
+    }
+}
 
 // The time stamps of a message, all readings.
 #[derive(Clone, Copy)]
@@ -31,99 +74,43 @@ pub struct Offsets {
     pub since: Reading,
 }
 
-// The ticks from `then` to `now`.
-pub fn since(now: Reading, then: Reading) -> u32
-    ensures { result ≡ since_of now then }
-{
-    wrapping_sub_u32(now.0, then.0)
-}
-
-// Whether a clock that showed `last` went back when it shows `now`: whether `now` is half the range
-// or more past it.
-pub fn went_back(now: Reading, last: Reading) -> bool
-    ensures { result ≡ back_of now last }
-{
-    let n = since(now, last);
-    2147483648 <= n
-}
-
-// Whether `limit` ticks or more have passed from `then` to `now`.
-pub fn has_passed(now: Reading, then: Reading, limit: u32) -> bool
-    ensures { result ≡ passed_of now then limit }
-{
-    let n = since(now, then);
-    limit <= n
-}
-
-pub fn is_same(a: Reading, b: Reading) -> bool
-    ensures { result ≡ same_of a b }
-{
-    let x = a.0;
-    let y = b.0;
-    x == y
-}
-
-// An own reading less one of the peer's.
-pub fn offset_of(own: Reading, peer: Reading) -> Offset
-    ensures { result ≡ offset_of own peer }
-{
-    let n = wrapping_sub_u32(own.0, peer.0);
-    Offset(n)
-}
-
-// Whether an offset is 0 less another.
-pub fn is_opposed(a: Offset, b: Offset) -> bool
-    ensures { result ≡ opposed_of a b }
-{
-    let x = a.0;
-    let n = wrapping_sub_u32(0, b.0);
-    x == n
-}
-
-// The pair of offsets that a message with these stamps gives when it comes at `now`.
-pub fn offsets_by(stamps: Stamps, now: Reading) -> Offsets
-    ensures { result ≡ offsets_by stamps now }
-{
-    let echo = stamps.echo;
-    let minimum = offset_of(echo, stamps.receipt);
-    let maximum = offset_of(now, stamps.sent);
-    Offsets {
-        minimum,
-        maximum,
-        since: echo,
+impl Offsets {
+    // The pair that a message with these stamps gives when it comes at `now`.
+    pub fn by(stamps: Stamps, now: Reading) -> Offsets
+        ensures { result ≡ offsets_by stamps now }
+    {
+        Offsets {
+            minimum: Offset::between(stamps.echo, stamps.receipt),
+            maximum: Offset::between(now, stamps.sent),
+            since: stamps.echo,
+        }
     }
-}
 
-// By how much a pair of offsets may be wrong.
-pub fn spread(pair: Offsets) -> u32
-    ensures { result ≡ spread_of pair }
-{
-    let low = pair.minimum;
-    let high = pair.maximum;
-    wrapping_sub_u32(high.0, low.0)
-}
+    // By how much the pair may be wrong.
+    pub fn spread(self) -> u32
+        ensures { result ≡ spread_of self }
+    {
+        self.maximum.0.wrapping_sub(self.minimum.0)
+    }
 
-// Whether the spread of a pair is at most `limit`.
-pub fn is_narrow(pair: Offsets, limit: u32) -> bool
-    ensures { result ≡ narrow_of pair limit }
-{
-    let width = spread(pair);
-    width <= limit
-}
+    // Whether the spread is at most `limit`.
+    pub fn is_narrow(self, limit: u32) -> bool
+        ensures { result ≡ narrow_of self limit }
+    {
+        self.spread() <= limit
+    }
 
-// How old a message may be at the most that left the peer at its reading `sent`.
-pub fn age(now: Reading, sent: Reading, pair: Offsets) -> u32
-    ensures { result ≡ age_of now sent pair }
-{
-    let least = pair.minimum;
-    let apart = wrapping_sub_u32(now.0, sent.0);
-    wrapping_sub_u32(apart, least.0)
-}
+    // How old a message may be at the most that left the peer at its reading `sent` and is here at `now`.
+    pub fn age(self, now: Reading, sent: Reading) -> u32
+        ensures { result ≡ age_of now sent self }
+    {
+        now.0.wrapping_sub(sent.0).wrapping_sub(self.minimum.0)
+    }
 
-// Whether that age is at most `limit`.
-pub fn is_fresh(now: Reading, sent: Reading, pair: Offsets, limit: u32) -> bool
-    ensures { result ≡ fresh_of now sent pair limit }
-{
-    let ticks = age(now, sent, pair);
-    ticks <= limit
+    // Whether that age is at most `limit`.
+    pub fn is_fresh(self, now: Reading, sent: Reading, limit: u32) -> bool
+        ensures { result ≡ fresh_of now sent self limit }
+    {
+        self.age(now, sent) <= limit
+    }
 }

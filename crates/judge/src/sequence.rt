@@ -1,10 +1,13 @@
 // Sequence numbers, and what a received one says of the messages before it.
+#![tactic(auto, unfolding(crate::specs::Difference::diff))]
+
 ghost use Rattle.std.specs.Prelude.{◌≡◌};
 ghost use Rattle.judge.specs.Sequence.{ahead_of, next_of, class_of};
 
-use std::num::wrapping_sub_u16;
+// Half of the numbers.
+const HALF: u16 = 1 << 15;
 
-#[derive(Clone, Copy)]
+#[derive(Clone, Copy, PartialEq, Eq)]
 pub enum Class {
     // The next one.
     Expected,
@@ -20,32 +23,23 @@ pub enum Class {
 pub fn ahead(received: u16, last: u16) -> u16
     ensures { result ≡ ahead_of received last }
 {
-    wrapping_sub_u16(received, last)
+    received.wrapping_sub(last)
 }
 
 pub fn is_next(received: u16, last: u16) -> bool
     ensures { result ≡ next_of received last }
 {
-    let d = ahead(received, last);
-    d == 1
+    ahead(received, last) == 1
 }
 
 // What a received number says, where up to `limit` ahead is still a gap.
 pub fn classify(received: u16, last: u16, limit: u16) -> Class
     ensures { result ≡ class_of received last limit }
 {
-    let d = ahead(received, last);
-    if d == 0 {
-        return Class::Old;
+    match ahead(received, last) {
+        1 => Class::Expected,
+        0 | HALF.. => Class::Old,
+        d if d <= limit => Class::Gap,
+        _ => Class::Lost,
     }
-    if d == 1 {
-        return Class::Expected;
-    }
-    if 32768 <= d {
-        return Class::Old;
-    }
-    if d <= limit {
-        return Class::Gap;
-    }
-    Class::Lost
 }

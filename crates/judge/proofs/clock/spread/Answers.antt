@@ -1,7 +1,0 @@
--- The ticks are the difference that wrapping subtraction gives.
-use Rattle.std.proofs.Common.{rules}
-use Rattle.judge.proofs.Difference.{wraps}
-use Rattle.judge.proofs.clock.spread.Goals as goal
-
-pub returns : goal.returns
-returns c = wraps 32 _ _ _ (search rules) c.wrapping_sub_u32.ensures.value
