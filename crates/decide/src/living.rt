@@ -1,8 +1,8 @@
 // The life of a connection: how long a state may last, and what indications, confirms and an Idle end's
 // ticks come to.
-ghost use Rattle.std.specs.Prelude.{◌≡◌};
+ghost use Rattle.std.specs.Prelude.{◌≡◌, false, cond, eqb};
 ghost use Rattle.rules.specs.State.{phase_of, awaited_by};
-ghost use Rattle.rules.specs.Living.{overdue, falls_silent, on_connect, on_disconnect, on_confirm, may_ask, on_idle_tick};
+ghost use Rattle.rules.specs.Living.{overdue, on_connect, on_disconnect, on_confirm, may_ask, on_idle_tick};
 
 use codec::kind::kind_of;
 use judge::clock::{Offset, Reading};
@@ -16,57 +16,53 @@ pub fn phase_of(life: Life) -> Phase
 {
     match life {
         Life::Idle => Phase::Idle,
-        Life::Calling => Phase::Starting,
-        Life::Opening => Phase::Starting,
-        Life::Settling => Phase::Starting,
-        Life::Greeted => Phase::Starting,
-        Life::Answering => Phase::Starting,
-        Life::Closing => Phase::Starting,
+        Life::Calling
+        | Life::Opening
+        | Life::Settling
+        | Life::Greeted
+        | Life::Answering
+        | Life::Closing => Phase::Starting,
         Life::Up => Phase::Up,
     }
 }
 
-// The kind of message that a life waits for, 0 where it waits for none.
-pub fn awaited(life: Life) -> u8
-    ensures { result ≡ awaited_by life }
+// The kind of message that a life waits for. Where it waits for none, the law's number is 0, which is no kind.
+pub fn awaited(life: Life) -> Option<u8>
+    ensures { result ≡ cond (eqb (awaited_by life) 0) None (Some (awaited_by life)) }
 {
-    match life {
-        Life::Idle => 0,
-        Life::Calling => 0,
-        Life::Opening => kind_of(Body::OffsetAnsw1),
+    let body = match life {
+        Life::Idle | Life::Calling => return None,
+        Life::Opening => Body::OffsetAnsw1,
         // Every estimate is of one kind.
-        Life::Settling => kind_of(Body::OffsetEst {
+        Life::Settling => Body::OffsetEst {
             minimum: Offset(0),
             maximum: Offset(0),
-        }),
-        Life::Greeted => kind_of(Body::OffsetStart),
-        Life::Answering => kind_of(Body::OffsetAnsw2),
-        Life::Closing => kind_of(Body::OffsetEnd),
-        Life::Up => kind_of(Body::LifeSign),
-    }
+        },
+        Life::Greeted => Body::OffsetStart,
+        Life::Answering => Body::OffsetAnsw2,
+        Life::Closing => Body::OffsetEnd,
+        Life::Up => Body::LifeSign,
+    };
+    Some(kind_of(body))
 }
 
 // Whether the peer has been silent for too long, or the start takes too long.
 pub fn is_overdue(e: End, at: Reading) -> bool
     ensures { result ≡ overdue e at }
 {
-    let life = e.life;
-    let line = e.line;
-    let times = line.times;
-    let settings = e.settings;
-    let now = phase_of(life);
-    match now {
+    match phase_of(e.life) {
         Phase::Idle => false,
-        Phase::Starting => at.has_passed(line.began, settings.wait),
-        Phase::Up => at.has_passed(times.heard, settings.silence),
+        Phase::Starting => at.has_passed(e.line.began, e.settings.wait),
+        Phase::Up => at.has_passed(e.line.times.heard, e.settings.silence),
     }
 }
 
-pub fn falls_silent() -> Act
-    ensures { result ≡ falls_silent }
+// Down with no error report.
+pub fn falls(answer: Answer) -> Act
+    ensures { result ≡ Act.Move (ConnectionMove.Fall answer false) }
 {
     Act::Move(ConnectionMove::Fall {
-        answer: Answer::Silent,
+        answer,
         error: false,
     })
 }
@@ -85,8 +81,7 @@ pub fn on_disconnect(now: Phase) -> Act
 {
     match now {
         Phase::Idle => Act::Note(Answer::NoRule),
-        Phase::Starting => Act::Move(ConnectionMove::Lose),
-        Phase::Up => Act::Move(ConnectionMove::Lose),
+        Phase::Starting | Phase::Up => Act::Move(ConnectionMove::Lose),
     }
 }
 
@@ -94,14 +89,14 @@ pub fn on_confirm(life: Life) -> Act
     ensures { result ≡ on_confirm life }
 {
     match life {
-        Life::Idle => Act::Note(Answer::NoRule),
         Life::Calling => Act::Start(Exchange::Begin(Body::OffsetStart)),
-        Life::Opening => Act::Note(Answer::NoRule),
-        Life::Settling => Act::Note(Answer::NoRule),
-        Life::Greeted => Act::Note(Answer::NoRule),
-        Life::Answering => Act::Note(Answer::NoRule),
-        Life::Closing => Act::Note(Answer::NoRule),
-        Life::Up => Act::Note(Answer::NoRule),
+        Life::Idle
+        | Life::Opening
+        | Life::Settling
+        | Life::Greeted
+        | Life::Answering
+        | Life::Closing
+        | Life::Up => Act::Note(Answer::NoRule),
     }
 }
 
@@ -109,12 +104,7 @@ pub fn on_confirm(life: Life) -> Act
 fn may_ask(e: End, at: Reading) -> bool
     ensures { result ≡ may_ask e at }
 {
-    let asking = e.asking;
-    let settings = e.settings;
-    if asking.at_once {
-        return true;
-    }
-    at.has_passed(asking.when, settings.retry)
+    e.asking.at_once || at.has_passed(e.asking.when, e.settings.retry)
 }
 
 pub fn on_idle_tick(e: End, at: Reading) -> Act
@@ -122,12 +112,7 @@ pub fn on_idle_tick(e: End, at: Reading) -> Act
 {
     let role = e.role;
     match role {
-        Role::Initiator => {
-            if may_ask(e, at) {
-                return Act::Move(ConnectionMove::Ask);
-            }
-            Act::Note(Answer::Handled)
-        }
-        Role::Called => Act::Note(Answer::Handled),
+        Role::Initiator if may_ask(e, at) => Act::Move(ConnectionMove::Ask),
+        Role::Initiator | Role::Called => Act::Note(Answer::Handled),
     }
 }

@@ -1,4 +1,5 @@
 // Clock readings, offsets between two clocks, and what is judged from them.
+// Every difference here is the one of the specs, which the proofs open.
 #![tactic(auto, unfolding(crate::specs::Difference::diff))]
 
 ghost use Rattle.std.specs.Prelude.{◌≡◌};

@@ -1,4 +1,5 @@
 // Sequence numbers, and what a received one says of the messages before it.
+// Every difference here is the one of the specs, which the proofs open.
 #![tactic(auto, unfolding(crate::specs::Difference::diff))]
 
 ghost use Rattle.std.specs.Prelude.{◌≡◌};
@@ -7,7 +8,7 @@ ghost use Rattle.judge.specs.Sequence.{ahead_of, next_of, class_of};
 // Half of the numbers.
 const HALF: u16 = 1 << 15;
 
-#[derive(Clone, Copy, PartialEq, Eq)]
+#[derive(Clone, Copy)]
 pub enum Class {
     // The next one.
     Expected,
