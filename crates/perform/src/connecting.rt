@@ -4,11 +4,11 @@ ghost use Rattle.rules.specs.Connecting.{falling};
 ghost use Rattle.rules.specs.Connecting.{moved as moved_by};
 ghost use Rattle.rules.specs.declared.act.ConnectionMove.TheVariants.{Ask, Accept};
 
-use crate::end::{asked_end, fallen_end, greeted_end, no_flags, was_up};
+use crate::end::{asked_end, fallen_end, greeted_end, no_flags, quiet, was_up};
 use judge::clock::Reading;
 use rules::act::ConnectionMove;
 use rules::answer::Answer;
-use rules::effect::{Effect, Placing};
+use rules::effect::{Effect, Flags};
 use rules::state::End;
 
 pub fn moved(e: End, m: ConnectionMove, at: Reading) -> Effect
@@ -25,14 +25,12 @@ pub fn moved(e: End, m: ConnectionMove, at: Reading) -> Effect
 fn ask(e: End, at: Reading) -> Effect
     ensures { result ≡ moved_by e Ask at }
 {
-    let end = asked_end(e, at);
-    let mut flags = no_flags();
-    flags.ask = true;
     Effect {
-        end,
-        placing: Placing::Nothing,
-        flags,
-        answer: Answer::Handled,
+        flags: Flags {
+            ask: true,
+            ..no_flags()
+        },
+        ..quiet(asked_end(e, at), Answer::Handled)
     }
 }
 
@@ -40,16 +38,13 @@ fn ask(e: End, at: Reading) -> Effect
 fn accept(e: End, at: Reading) -> Effect
     ensures { result ≡ moved_by e Accept at }
 {
-    let down = was_up(e);
-    let end = greeted_end(e, at);
-    let mut flags = no_flags();
-    flags.accept = true;
-    flags.down = down;
     Effect {
-        end,
-        placing: Placing::Nothing,
-        flags,
-        answer: Answer::Handled,
+        flags: Flags {
+            accept: true,
+            down: was_up(e),
+            ..no_flags()
+        },
+        ..quiet(greeted_end(e, at), Answer::Handled)
     }
 }
 
@@ -57,16 +52,13 @@ fn accept(e: End, at: Reading) -> Effect
 fn fall(e: End, at: Reading, answer: Answer, error: bool, release: bool) -> Effect
     ensures { result ≡ falling e at answer error release }
 {
-    let down = was_up(e);
-    let end = fallen_end(e, at);
-    let mut flags = no_flags();
-    flags.error = error;
-    flags.release = release;
-    flags.down = down;
     Effect {
-        end,
-        placing: Placing::Nothing,
-        flags,
-        answer,
+        flags: Flags {
+            error,
+            release,
+            down: was_up(e),
+            ..no_flags()
+        },
+        ..quiet(fallen_end(e, at), answer)
     }
 }

@@ -5,8 +5,8 @@ ghost use Rattle.rules.specs.Exchanging.{message_by, sending, measured_line};
 ghost use Rattle.rules.specs.Exchanging.{started as started_by};
 ghost use Rattle.rules.specs.declared.act.Exchange.TheVariants.{Begin, Greet, Finish, Rise};
 
-use crate::end::{moved_end, no_flags, up_flag};
-use crate::line::{accepted, header, posted, risen, sent, with_began, with_offsets};
+use crate::end::{no_flags, quiet};
+use crate::line::{accepted, header, posted, risen, sent};
 use judge::clock::Reading;
 use rules::act::{Exchange, Measurement, Swap};
 use rules::answer::Answer;
@@ -31,84 +31,82 @@ pub fn started(e: End, x: Exchange, at: Reading) -> Effect
 pub fn message(line: Line, at: Reading, body: Body) -> Message
     ensures { result ≡ message_by line at body }
 {
-    let header = header(line, at);
-    Message { header, body }
+    Message {
+        header: header(line, at),
+        body,
+    }
 }
 
 // A message of the start goes out, and a life begins.
-fn send(e: End, at: Reading, life: Life, line: Line, body: Body, flags: Flags) -> Effect
-    ensures { result ≡ sending e at life line body flags }
+fn send(e: End, at: Reading, life: Life, line: Line, body: Body) -> Effect
+    ensures { result ≡ sending e at life line body no_flags }
 {
-    let ring = e.ring;
-    let end = moved_end(e, at, life, sent(line), ring);
-    let m = message(line, at, body);
+    let end = End {
+        line: sent(line),
+        reading: at,
+        life,
+        ..e
+    };
     Effect {
-        end,
-        placing: Placing::Send(m),
-        flags,
-        answer: Answer::Handled,
+        placing: Placing::Send(message(line, at, body)),
+        ..quiet(end, Answer::Handled)
     }
 }
 
 fn begin(e: End, goes: Body, at: Reading) -> Effect
     ensures { result ≡ started_by e (Begin goes) at }
 {
-    let before = e.line;
-    let line = posted(with_began(before, at), at);
-    send(e, at, Life::Opening, line, goes, no_flags())
+    let line = Line {
+        began: at,
+        ..e.line
+    };
+    send(e, at, Life::Opening, posted(line, at), goes)
 }
 
 fn greet(e: End, s: Swap, at: Reading) -> Effect
     ensures { result ≡ started_by e (Greet s) at }
 {
-    let before = e.line;
-    let came = s.came;
-    let goes = s.goes;
-    let line = posted(accepted(before, came, at), at);
-    send(e, at, Life::Answering, line, goes, no_flags())
-}
-
-// The line with what a message of the start gave.
-fn measured(line: Line, m: Measurement, at: Reading) -> Line
-    ensures { result ≡ measured_line line m at }
-{
-    let swap = m.swap;
-    let came = swap.came;
-    let offsets = m.offsets;
-    with_offsets(accepted(line, came, at), offsets)
+    let line = posted(accepted(e.line, s.came, at), at);
+    send(e, at, Life::Answering, line, s.goes)
 }
 
 fn measure(e: End, at: Reading, life: Life, m: Measurement) -> Effect
     ensures { result ≡ sending e at life (measured_line e.line m at) m.swap.goes no_flags }
 {
-    let before = e.line;
-    let swap = m.swap;
-    let goes = swap.goes;
-    send(e, at, life, measured(before, m, at), goes, no_flags())
+    let line = Line {
+        offsets: m.offsets,
+        ..accepted(e.line, m.swap.came, at)
+    };
+    send(e, at, life, line, m.swap.goes)
 }
 
 fn finish(e: End, s: Swap, at: Reading) -> Effect
     ensures { result ≡ started_by e (Finish s) at }
 {
-    let before = e.line;
-    let came = s.came;
-    let goes = s.goes;
-    let line = risen(accepted(before, came, at), at);
-    send(e, at, Life::Up, line, goes, up_flag())
+    let line = risen(accepted(e.line, s.came, at), at);
+    Effect {
+        flags: Flags {
+            up: true,
+            ..no_flags()
+        },
+        ..send(e, at, Life::Up, line, s.goes)
+    }
 }
 
 fn rise(e: End, h: Header, at: Reading) -> Effect
     ensures { result ≡ started_by e (Rise h) at }
 {
-    let before = e.line;
-    let ring = e.ring;
-    let line = risen(accepted(before, h, at), at);
-    let end = moved_end(e, at, Life::Up, line, ring);
-    let flags = up_flag();
+    let end = End {
+        line: risen(accepted(e.line, h, at), at),
+        reading: at,
+        life: Life::Up,
+        ..e
+    };
     Effect {
-        end,
-        placing: Placing::Nothing,
-        flags,
-        answer: Answer::Handled,
+        flags: Flags {
+            up: true,
+            ..no_flags()
+        },
+        ..quiet(end, Answer::Handled)
     }
 }

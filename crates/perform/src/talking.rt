@@ -1,19 +1,19 @@
 // Hearing and saying while Up.
 ghost use Rattle.std.specs.Prelude.{◌≡◌};
-ghost use Rattle.rules.specs.Talking.{delivering, has_gap, delivered_answer, longer, speaking};
+ghost use Rattle.rules.specs.Talking.{longer, speaking};
 ghost use Rattle.rules.specs.Talking.{heard as heard_by, said as said_by};
 ghost use Rattle.rules.specs.declared.act.Verdict.TheVariants.{Deliver, Report};
 ghost use Rattle.rules.specs.declared.act.Speech.TheVariants.{Quiet, Beat, Speak, Drain, Hold};
 
-use crate::end::{error_flag, moved_end, no_flags};
+use crate::end::{no_flags, noted_end, quiet};
 use crate::exchanging::message;
-use crate::line::{accepted, delivered, sent, spoken, with_busy, with_failures};
+use crate::line::{accepted, delivered, sent, spoken};
 use judge::clock::Reading;
 use queue::Ring;
 use rules::act::{Delivery, Speech, Verdict};
 use rules::answer::Answer;
-use rules::effect::{Effect, Placing};
-use rules::state::End;
+use rules::effect::{Effect, Flags, Placing};
+use rules::state::{End, Line};
 use store::{waiting, without_oldest};
 use wire::message::Body;
 
@@ -26,65 +26,47 @@ pub fn heard(e: End, v: Verdict, at: Reading) -> Effect
     }
 }
 
-// Train data go to the user, life signs to nobody.
-fn delivering_of(train: bool) -> Placing
-    ensures { result ≡ delivering train }
-{
-    if train {
-        Placing::Deliver
-    } else {
-        Placing::Nothing
-    }
-}
-
-// Messages are missing before it.
-fn has_gap(d: Delivery) -> bool
-    ensures { result ≡ has_gap d }
-{
-    let skipped = d.skipped;
-    skipped != 0
-}
-
-fn delivered_answer(gap: bool) -> Answer
-    ensures { result ≡ delivered_answer gap }
-{
-    if gap { Answer::Gap } else { Answer::Handled }
-}
-
+// Train data go to the user, life signs to nobody. Where messages are missing before it, that is reported.
 fn deliver(e: End, d: Delivery, at: Reading) -> Effect
     ensures { result ≡ heard_by e (Deliver d) at }
 {
-    let before = e.line;
-    let life = e.life;
-    let ring = e.ring;
-    let h = d.header;
-    let gap = has_gap(d);
-    let line = delivered(accepted(before, h, at), at);
-    let end = moved_end(e, at, life, line, ring);
-    let placing = delivering_of(d.train);
-    let flags = error_flag(gap);
-    let answer = delivered_answer(gap);
+    let gap = d.skipped != 0;
     Effect {
-        end,
-        placing,
-        flags,
-        answer,
+        end: End {
+            line: delivered(accepted(e.line, d.header, at), at),
+            reading: at,
+            ..e
+        },
+        placing: if d.train {
+            Placing::Deliver
+        } else {
+            Placing::Nothing
+        },
+        flags: Flags {
+            error: gap,
+            ..no_flags()
+        },
+        answer: if gap { Answer::Gap } else { Answer::Handled },
     }
 }
 
 fn report(e: End, answer: Answer, failures: u8, at: Reading) -> Effect
     ensures { result ≡ heard_by e (Report answer failures) at }
 {
-    let before = e.line;
-    let life = e.life;
-    let ring = e.ring;
-    let end = moved_end(e, at, life, with_failures(before, failures), ring);
-    let flags = error_flag(true);
+    let line = Line { failures, ..e.line };
     Effect {
-        end,
-        placing: Placing::Nothing,
-        flags,
-        answer,
+        flags: Flags {
+            error: true,
+            ..no_flags()
+        },
+        ..quiet(
+            End {
+                line,
+                reading: at,
+                ..e
+            },
+            answer,
+        )
     }
 }
 
@@ -104,90 +86,78 @@ pub fn said(e: End, s: Speech, at: Reading) -> Effect
 fn say(e: End, at: Reading, ring: Ring, placing: Placing) -> Effect
     ensures { result ≡ speaking e at ring placing }
 {
-    let before = e.line;
-    let life = e.life;
-    let end = moved_end(e, at, life, sent(spoken(before, at)), ring);
-    let flags = no_flags();
+    let end = End {
+        line: sent(spoken(e.line, at)),
+        reading: at,
+        ring,
+        ..e
+    };
     Effect {
-        end,
         placing,
-        flags,
-        answer: Answer::Handled,
+        ..quiet(end, Answer::Handled)
     }
 }
 
 fn keep_quiet(e: End, at: Reading) -> Effect
     ensures { result ≡ said_by e Quiet at }
 {
-    let before = e.line;
-    let life = e.life;
-    let ring = e.ring;
-    let end = moved_end(e, at, life, with_busy(before, false), ring);
-    let flags = no_flags();
-    Effect {
-        end,
-        placing: Placing::Nothing,
-        flags,
-        answer: Answer::Handled,
-    }
+    let line = Line {
+        busy: false,
+        ..e.line
+    };
+    quiet(
+        End {
+            line,
+            reading: at,
+            ..e
+        },
+        Answer::Handled,
+    )
 }
 
 fn beat(e: End, at: Reading) -> Effect
     ensures { result ≡ said_by e Beat at }
 {
-    let line = e.line;
-    let ring = e.ring;
-    let m = message(line, at, Body::LifeSign);
-    say(e, at, ring, Placing::Send(m))
+    let m = message(e.line, at, Body::LifeSign);
+    say(e, at, e.ring, Placing::Send(m))
 }
 
 fn speak(e: End, at: Reading) -> Effect
     ensures { result ≡ said_by e Speak at }
 {
-    let line = e.line;
-    let ring = e.ring;
-    let m = message(line, at, Body::TrainData);
-    say(e, at, ring, Placing::SendUser(m))
+    let m = message(e.line, at, Body::TrainData);
+    say(e, at, e.ring, Placing::SendUser(m))
 }
 
 fn drain(e: End, at: Reading) -> Effect
     ensures { result ≡ said_by e Drain at }
 {
-    let line = e.line;
-    let ring = e.ring;
-    let oldest = message(line, at, Body::TrainData);
-    say(
-        e,
-        at,
-        without_oldest(ring),
-        Placing::SendOldest {
-            message: oldest,
-            ring,
-        },
-    )
+    let oldest = Placing::SendOldest {
+        message: message(e.line, at, Body::TrainData),
+        ring: e.ring,
+    };
+    say(e, at, without_oldest(e.ring), oldest)
 }
 
 // The ring with one more at its end.
 fn longer_of(ring: Ring) -> Ring
     ensures { result ≡ longer ring }
 {
-    let n = waiting(ring);
-    let head = ring.head;
-    Ring { head, count: n + 1 }
+    Ring {
+        count: waiting(ring) + 1,
+        ..ring
+    }
 }
 
 fn hold(e: End, at: Reading) -> Effect
     ensures { result ≡ said_by e Hold at }
 {
-    let line = e.line;
-    let life = e.life;
-    let ring = e.ring;
-    let end = moved_end(e, at, life, line, longer_of(ring));
-    let flags = no_flags();
+    let end = End {
+        ring: longer_of(e.ring),
+        ..noted_end(e, at)
+    };
     Effect {
-        end,
-        placing: Placing::Store(ring),
-        flags,
-        answer: Answer::Handled,
+        placing: Placing::Store(e.ring),
+        ..quiet(end, Answer::Handled)
     }
 }
