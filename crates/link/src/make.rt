@@ -25,19 +25,15 @@ pub fn make(role: Role, at: Reading, settings: Settings) -> Result<End, Answer>
 fn fresh_end(role: Role, at: Reading, settings: Settings) -> End
     ensures { result ≡ fresh_end role at settings }
 {
-    let at_once = asks_at_once(role);
-    let asking = Asking {
-        when: Reading(0),
-        at_once,
-    };
-    let line = blank_line();
-    let ring = store::empty();
     End {
         settings,
-        line,
+        line: blank_line(),
         reading: at,
-        asking,
-        ring,
+        asking: Asking {
+            when: Reading(0),
+            at_once: asks_at_once(role),
+        },
+        ring: store::empty(),
         role,
         life: Life::Idle,
     }

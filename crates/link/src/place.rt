@@ -32,13 +32,13 @@ pub fn place(p: Placing, given: &[u8], out: &mut [u8], q: &mut [u8; BYTES]) -> F
     }
 }
 
+#[tactic(auto, using(rules::proofs::Fits::written_whole))]
 fn send(out: &mut [u8], m: Message, train: &[u8]) -> Front
     requires { (carries m.body train.now ≡ true) × (least_room ≤ length out.old) }
     ensures value { result ≡ Front.Message (length (encode m train.now)) }
     ensures out_after { out.new ≡ over (encode m train.now) out.old }
 {
-    let n = write_message(out, m, train);
-    Front::Message(n)
+    Front::Message(write_message(out, m, train))
 }
 
 fn deliver(out: &mut [u8], given: &[u8]) -> Front

@@ -13,6 +13,7 @@ use rules::state::End;
 // Takes one event, at a reading of the own clock. `given` are the bytes of user data or of a message,
 // and other events pass over them. What the end gives out stands at the front of `out`, and `q` holds
 // the user's data that wait.
+#[tactic(auto, using(rules::proofs::Readiness::effect_ready), unfolding(rules::specs::Step::effect_of, rules::specs::Step::stepped))]
 pub fn step(
     e: End,
     event: Event,
@@ -23,17 +24,11 @@ pub fn step(
 ) -> Outcome
     ensures { StepPromise e event at given.now out.old q.old (record { outcome = result; out = out.new; queue = q.new }) }
 {
-    let room = out.len();
-    let effect = perform(e, decide(e, event, at, given, room), at);
-    let end = effect.end;
-    let placing = effect.placing;
-    let flags = effect.flags;
-    let answer = effect.answer;
-    let front = place(placing, given, out, q);
+    let effect = perform(e, decide(e, event, at, given, out.len()), at);
     Outcome {
-        end,
-        front,
-        flags,
-        answer,
+        end: effect.end,
+        front: place(effect.placing, given, out, q),
+        flags: effect.flags,
+        answer: effect.answer,
     }
 }
