@@ -9,7 +9,7 @@ ghost use Rattle.judge.specs.Clock.{since_of, back_of, passed_of, offset_of, opp
 const HALF: u32 = 1 << 31;
 
 // What one clock shows, in ticks. It wraps.
-#[derive(Clone, Copy, PartialEq, Eq)]
+#[derive(Clone, Copy, Default, PartialEq, Eq)]
 pub struct Reading(pub u32);
 
 impl Reading {
@@ -37,7 +37,7 @@ impl Reading {
 }
 
 // By how much one clock is ahead of another, in ticks. It wraps, and it is no reading.
-#[derive(Clone, Copy, PartialEq, Eq)]
+#[derive(Clone, Copy, Default, PartialEq, Eq)]
 pub struct Offset(pub u32);
 
 impl Offset {
@@ -68,7 +68,7 @@ pub struct Stamps {
 }
 
 // Two bounds of how far the own clock is ahead of the peer's, and the own reading that began them.
-#[derive(Clone, Copy)]
+#[derive(Clone, Copy, Default)]
 pub struct Offsets {
     pub minimum: Offset,
     pub maximum: Offset,

@@ -1,16 +1,20 @@
 // The end afterwards, and what is reported.
+//
+// Here and in the files above it an end and the reading of the event go side by side, as in the law: joined, each
+// contract would have to take them apart again.
 ghost use Rattle.std.specs.Prelude.{◌≡◌};
 ghost use Rattle.queue.specs.Ring.{empty_ring};
 ghost use Rattle.rules.specs.Make.{asks_at_once};
 ghost use Rattle.rules.specs.Perform.{quietly};
 ghost use Rattle.rules.specs.State.{new_line};
-ghost use Rattle.rules.specs.Ends.{was_up, moved_end, noted_end, asked_end, fallen_end, no_flags};
+ghost use Rattle.rules.specs.Ends.{was_up, moved_end, noted_end, asked_end, fallen_end, no_flags, error_flag, up_flag};
 
 use crate::line::{blank_line, new_line};
 use judge::clock::Reading;
+use queue::Ring;
 use rules::answer::Answer;
 use rules::effect::{Effect, Flags, Placing};
-use rules::state::{Asking, End, Life, Role};
+use rules::state::{Asking, End, Life, Line, Role};
 
 pub fn was_up(e: End) -> bool
     ensures { result ≡ was_up e }
@@ -25,24 +29,24 @@ pub fn asks_at_once(role: Role) -> bool
     matches!(role, Role::Initiator)
 }
 
+// Another life, line and queue. Role and settings never change.
+pub fn moved_end(e: End, at: Reading, life: Life, line: Line, ring: Ring) -> End
+    ensures { result ≡ moved_end e at life line ring }
+{
+    End {
+        line,
+        reading: at,
+        ring,
+        life,
+        ..e
+    }
+}
+
 // The new reading, and nothing else.
 pub fn noted_end(e: End, at: Reading) -> End
     ensures { result ≡ noted_end e at }
 {
     End { reading: at, ..e }
-}
-
-// A connection that begins now, with nothing of one before.
-fn begun_end(e: End, at: Reading, life: Life) -> End
-    ensures { result ≡ moved_end e at life (new_line at) empty_ring }
-{
-    End {
-        line: new_line(at),
-        reading: at,
-        ring: store::empty(),
-        life,
-        ..e
-    }
 }
 
 // A new connection is asked for, which ends asking at once.
@@ -54,15 +58,15 @@ pub fn asked_end(e: End, at: Reading) -> End
             when: at,
             at_once: false,
         },
-        ..begun_end(e, at, Life::Calling)
+        ..moved_end(e, at, Life::Calling, new_line(at), store::empty())
     }
 }
 
-// A new connection is accepted.
+// A new connection is accepted, with nothing of one before.
 pub fn greeted_end(e: End, at: Reading) -> End
     ensures { result ≡ moved_end e at Life.Greeted (new_line at) empty_ring }
 {
-    begun_end(e, at, Life::Greeted)
+    moved_end(e, at, Life::Greeted, new_line(at), store::empty())
 }
 
 // Idle, with nothing of the connection. An initiator that was Up may ask at once.
@@ -70,28 +74,35 @@ pub fn fallen_end(e: End, at: Reading) -> End
     ensures { result ≡ fallen_end e at }
 {
     End {
-        line: blank_line(),
-        reading: at,
         asking: Asking {
             at_once: e.asking.at_once || was_up(e) && asks_at_once(e.role),
             ..e.asking
         },
-        ring: store::empty(),
-        life: Life::Idle,
-        ..e
+        ..moved_end(e, at, Life::Idle, blank_line(), store::empty())
     }
 }
 
 pub fn no_flags() -> Flags
     ensures { result ≡ no_flags }
 {
+    Flags::default()
+}
+
+pub fn error_flag(error: bool) -> Flags
+    ensures { result ≡ error_flag error }
+{
     Flags {
-        ask: false,
-        accept: false,
-        up: false,
-        error: false,
-        release: false,
-        down: false,
+        error,
+        ..no_flags()
+    }
+}
+
+pub fn up_flag() -> Flags
+    ensures { result ≡ up_flag }
+{
+    Flags {
+        up: true,
+        ..no_flags()
     }
 }
 

@@ -5,12 +5,12 @@ ghost use Rattle.rules.specs.Exchanging.{message_by, sending, measured_line};
 ghost use Rattle.rules.specs.Exchanging.{started as started_by};
 ghost use Rattle.rules.specs.declared.act.Exchange.TheVariants.{Begin, Greet, Finish, Rise};
 
-use crate::end::{no_flags, quiet};
-use crate::line::{accepted, header, posted, risen, sent};
+use crate::end::{moved_end, quiet, up_flag};
+use crate::line::{accepted, header, posted, risen, sent, with_began, with_offsets};
 use judge::clock::Reading;
 use rules::act::{Exchange, Measurement, Swap};
 use rules::answer::Answer;
-use rules::effect::{Effect, Flags, Placing};
+use rules::effect::{Effect, Placing};
 use rules::state::{End, Life, Line};
 use wire::message::{Body, Header, Message};
 
@@ -41,26 +41,17 @@ pub fn message(line: Line, at: Reading, body: Body) -> Message
 fn send(e: End, at: Reading, life: Life, line: Line, body: Body) -> Effect
     ensures { result ≡ sending e at life line body no_flags }
 {
-    let end = End {
-        line: sent(line),
-        reading: at,
-        life,
-        ..e
-    };
     Effect {
         placing: Placing::Send(message(line, at, body)),
-        ..quiet(end, Answer::Handled)
+        ..quiet(moved_end(e, at, life, sent(line), e.ring), Answer::Handled)
     }
 }
 
 fn begin(e: End, goes: Body, at: Reading) -> Effect
     ensures { result ≡ started_by e (Begin goes) at }
 {
-    let line = Line {
-        began: at,
-        ..e.line
-    };
-    send(e, at, Life::Opening, posted(line, at), goes)
+    let line = posted(with_began(e.line, at), at);
+    send(e, at, Life::Opening, line, goes)
 }
 
 fn greet(e: End, s: Swap, at: Reading) -> Effect
@@ -73,10 +64,7 @@ fn greet(e: End, s: Swap, at: Reading) -> Effect
 fn measure(e: End, at: Reading, life: Life, m: Measurement) -> Effect
     ensures { result ≡ sending e at life (measured_line e.line m at) m.swap.goes no_flags }
 {
-    let line = Line {
-        offsets: m.offsets,
-        ..accepted(e.line, m.swap.came, at)
-    };
+    let line = with_offsets(accepted(e.line, m.swap.came, at), m.offsets);
     send(e, at, life, line, m.swap.goes)
 }
 
@@ -85,10 +73,7 @@ fn finish(e: End, s: Swap, at: Reading) -> Effect
 {
     let line = risen(accepted(e.line, s.came, at), at);
     Effect {
-        flags: Flags {
-            up: true,
-            ..no_flags()
-        },
+        flags: up_flag(),
         ..send(e, at, Life::Up, line, s.goes)
     }
 }
@@ -96,17 +81,9 @@ fn finish(e: End, s: Swap, at: Reading) -> Effect
 fn rise(e: End, h: Header, at: Reading) -> Effect
     ensures { result ≡ started_by e (Rise h) at }
 {
-    let end = End {
-        line: risen(accepted(e.line, h, at), at),
-        reading: at,
-        life: Life::Up,
-        ..e
-    };
+    let line = risen(accepted(e.line, h, at), at);
     Effect {
-        flags: Flags {
-            up: true,
-            ..no_flags()
-        },
-        ..quiet(end, Answer::Handled)
+        flags: up_flag(),
+        ..quiet(moved_end(e, at, Life::Up, line, e.ring), Answer::Handled)
     }
 }

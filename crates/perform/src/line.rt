@@ -2,50 +2,58 @@
 //
 // Functions and no methods: an inherent impl has to stand in the crate of its type, and `rules` holds types alone.
 ghost use Rattle.std.specs.Prelude.{◌≡◌};
-ghost use Rattle.rules.specs.State.{line_from, blank_line, new_line};
-ghost use Rattle.rules.specs.Line.{accepted_line, posted_line, sent_line, risen_line, delivered_line, spoken_line, header_by};
+ghost use Rattle.rules.specs.State.{blank_line, new_line};
+ghost use Rattle.rules.specs.Line.{with_offsets, with_began, with_failures, with_busy, accepted_line, posted_line, sent_line, risen_line, delivered_line, spoken_line, header_by};
 
-use judge::clock::{Offset, Offsets, Reading, Stamps};
+use judge::clock::{Offsets, Reading, Stamps};
 use rules::state::{Echo, Line, Numbers, Times};
 use wire::message::Header;
 
-// All zeros but for when the wait began and the number last accepted.
-fn line_from(began: Reading, last: u16) -> Line
-    ensures { result ≡ line_from began last }
-{
-    Line {
-        offsets: Offsets {
-            minimum: Offset(0),
-            maximum: Offset(0),
-            since: Reading(0),
-        },
-        began,
-        times: Times {
-            said: Reading(0),
-            heard: Reading(0),
-        },
-        echo: Echo {
-            peer: Reading(0),
-            own: Reading(0),
-        },
-        numbers: Numbers { next: 0, last },
-        failures: 0,
-        busy: false,
-    }
-}
-
-// What an Idle end holds of a connection.
+// What an Idle end holds of a connection: all zeros.
 pub fn blank_line() -> Line
     ensures { result ≡ blank_line }
 {
-    line_from(Reading(0), 0)
+    Line::default()
 }
 
-// A connection that begins now.
+// A connection that begins now. The number before the first counts as accepted.
 pub fn new_line(at: Reading) -> Line
     ensures { result ≡ new_line at }
 {
-    line_from(at, u16::MAX)
+    Line {
+        began: at,
+        numbers: Numbers {
+            next: 0,
+            last: u16::MAX,
+        },
+        ..Line::default()
+    }
+}
+
+// The pair that was measured.
+pub fn with_offsets(line: Line, offsets: Offsets) -> Line
+    ensures { result ≡ with_offsets line offsets }
+{
+    Line { offsets, ..line }
+}
+
+// The wait restarts.
+pub fn with_began(line: Line, began: Reading) -> Line
+    ensures { result ≡ with_began line began }
+{
+    Line { began, ..line }
+}
+
+pub fn with_failures(line: Line, failures: u8) -> Line
+    ensures { result ≡ with_failures line failures }
+{
+    Line { failures, ..line }
+}
+
+pub fn with_busy(line: Line, busy: bool) -> Line
+    ensures { result ≡ with_busy line busy }
+{
+    Line { busy, ..line }
 }
 
 // A message was accepted: its number is the last, and its stamps are to be echoed.

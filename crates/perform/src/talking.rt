@@ -5,15 +5,15 @@ ghost use Rattle.rules.specs.Talking.{heard as heard_by, said as said_by};
 ghost use Rattle.rules.specs.declared.act.Verdict.TheVariants.{Deliver, Report};
 ghost use Rattle.rules.specs.declared.act.Speech.TheVariants.{Quiet, Beat, Speak, Drain, Hold};
 
-use crate::end::{no_flags, noted_end, quiet};
+use crate::end::{error_flag, moved_end, quiet};
 use crate::exchanging::message;
-use crate::line::{accepted, delivered, sent, spoken};
+use crate::line::{accepted, delivered, sent, spoken, with_busy, with_failures};
 use judge::clock::Reading;
 use queue::Ring;
 use rules::act::{Delivery, Speech, Verdict};
 use rules::answer::Answer;
-use rules::effect::{Effect, Flags, Placing};
-use rules::state::{End, Line};
+use rules::effect::{Effect, Placing};
+use rules::state::End;
 use store::{waiting, without_oldest};
 use wire::message::Body;
 
@@ -26,26 +26,20 @@ pub fn heard(e: End, v: Verdict, at: Reading) -> Effect
     }
 }
 
-// Train data go to the user, life signs to nobody. Where messages are missing before it, that is reported.
+// Train data go to the user, life signs to nobody. That messages are missing before it is reported.
 fn deliver(e: End, d: Delivery, at: Reading) -> Effect
     ensures { result ≡ heard_by e (Deliver d) at }
 {
     let gap = d.skipped != 0;
+    let line = delivered(accepted(e.line, d.header, at), at);
     Effect {
-        end: End {
-            line: delivered(accepted(e.line, d.header, at), at),
-            reading: at,
-            ..e
-        },
+        end: moved_end(e, at, e.life, line, e.ring),
         placing: if d.train {
             Placing::Deliver
         } else {
             Placing::Nothing
         },
-        flags: Flags {
-            error: gap,
-            ..no_flags()
-        },
+        flags: error_flag(gap),
         answer: if gap { Answer::Gap } else { Answer::Handled },
     }
 }
@@ -53,20 +47,10 @@ fn deliver(e: End, d: Delivery, at: Reading) -> Effect
 fn report(e: End, answer: Answer, failures: u8, at: Reading) -> Effect
     ensures { result ≡ heard_by e (Report answer failures) at }
 {
-    let line = Line { failures, ..e.line };
+    let end = moved_end(e, at, e.life, with_failures(e.line, failures), e.ring);
     Effect {
-        flags: Flags {
-            error: true,
-            ..no_flags()
-        },
-        ..quiet(
-            End {
-                line,
-                reading: at,
-                ..e
-            },
-            answer,
-        )
+        flags: error_flag(true),
+        ..quiet(end, answer)
     }
 }
 
@@ -86,12 +70,7 @@ pub fn said(e: End, s: Speech, at: Reading) -> Effect
 fn say(e: End, at: Reading, ring: Ring, placing: Placing) -> Effect
     ensures { result ≡ speaking e at ring placing }
 {
-    let end = End {
-        line: sent(spoken(e.line, at)),
-        reading: at,
-        ring,
-        ..e
-    };
+    let end = moved_end(e, at, e.life, sent(spoken(e.line, at)), ring);
     Effect {
         placing,
         ..quiet(end, Answer::Handled)
@@ -101,18 +80,8 @@ fn say(e: End, at: Reading, ring: Ring, placing: Placing) -> Effect
 fn keep_quiet(e: End, at: Reading) -> Effect
     ensures { result ≡ said_by e Quiet at }
 {
-    let line = Line {
-        busy: false,
-        ..e.line
-    };
-    quiet(
-        End {
-            line,
-            reading: at,
-            ..e
-        },
-        Answer::Handled,
-    )
+    let end = moved_end(e, at, e.life, with_busy(e.line, false), e.ring);
+    quiet(end, Answer::Handled)
 }
 
 fn beat(e: End, at: Reading) -> Effect
@@ -152,10 +121,7 @@ fn longer_of(ring: Ring) -> Ring
 fn hold(e: End, at: Reading) -> Effect
     ensures { result ≡ said_by e Hold at }
 {
-    let end = End {
-        ring: longer_of(e.ring),
-        ..noted_end(e, at)
-    };
+    let end = moved_end(e, at, e.life, e.line, longer_of(e.ring));
     Effect {
         placing: Placing::Store(e.ring),
         ..quiet(end, Answer::Handled)

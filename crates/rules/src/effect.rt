@@ -8,7 +8,7 @@ use wire::message::{HEADER, LONGEST, Message};
 pub const ROOM: usize = HEADER + 1 + LONGEST;
 
 // What is reported. The order in which outputs leave is that of `Outputs.outputs_of` in specs/.
-#[derive(Clone, Copy)]
+#[derive(Clone, Copy, Default)]
 pub struct Flags {
     pub ask: bool,
     pub accept: bool,

@@ -33,28 +33,28 @@ pub enum Phase {
 }
 
 // When the last kind 6 went, and when the last message was delivered; or coming Up.
-#[derive(Clone, Copy)]
+#[derive(Clone, Copy, Default)]
 pub struct Times {
     pub said: Reading,
     pub heard: Reading,
 }
 
 // The stamps to echo: the peer's reading in the last message accepted, and the own one then.
-#[derive(Clone, Copy)]
+#[derive(Clone, Copy, Default)]
 pub struct Echo {
     pub peer: Reading,
     pub own: Reading,
 }
 
 // The number of the next message, and that of the last one accepted.
-#[derive(Clone, Copy)]
+#[derive(Clone, Copy, Default)]
 pub struct Numbers {
     pub next: u16,
     pub last: u16,
 }
 
 // What an end holds of its connection. All zeros while Idle.
-#[derive(Clone, Copy)]
+#[derive(Clone, Copy, Default)]
 pub struct Line {
     // The peer's clock against the own one. Its `since` is the own reading in kind 1 or kind 2, from when
     // that is sent.
