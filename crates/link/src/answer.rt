@@ -4,7 +4,7 @@ ghost use Rattle.rules.specs.Answers.{number_of};
 
 use rules::answer::Answer;
 
-// The number that the rules give an answer.
+// The number that the rules give an answer. No method, since `rules` holds types alone.
 pub fn number(a: Answer) -> u8
     ensures { result ≡ number_of a }
 {

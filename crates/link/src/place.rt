@@ -21,7 +21,7 @@ pub fn place(p: Placing, given: &[u8], out: &mut [u8], q: &mut [u8; BYTES]) -> F
 {
     match p {
         Placing::Nothing => Front::Nothing,
-        Placing::Send(m) => send(out, m, &given[..0]),
+        Placing::Send(m) => send(out, m, &[]),
         Placing::SendUser(m) => send(out, m, given),
         Placing::SendOldest { message, ring } => send(out, message, oldest(q, ring)),
         Placing::Deliver => deliver(out, given),

@@ -4,7 +4,7 @@ ghost use Rattle.rules.specs.Connecting.{falling};
 ghost use Rattle.rules.specs.Connecting.{moved as moved_by};
 ghost use Rattle.rules.specs.declared.act.ConnectionMove.TheVariants.{Ask, Accept};
 
-use crate::end::{asked_end, fallen_end, greeted_end, no_flags, quiet, was_up};
+use crate::end::{asked_end, fallen_end, greeted_end, no_flags, quietly, was_up};
 use judge::clock::Reading;
 use rules::act::ConnectionMove;
 use rules::answer::Answer;
@@ -30,7 +30,7 @@ fn ask(e: End, at: Reading) -> Effect
             ask: true,
             ..no_flags()
         },
-        ..quiet(asked_end(e, at), Answer::Handled)
+        ..quietly(asked_end(e, at), Answer::Handled)
     }
 }
 
@@ -44,7 +44,7 @@ fn accept(e: End, at: Reading) -> Effect
             down: was_up(e),
             ..no_flags()
         },
-        ..quiet(greeted_end(e, at), Answer::Handled)
+        ..quietly(greeted_end(e, at), Answer::Handled)
     }
 }
 
@@ -59,6 +59,6 @@ fn fall(e: End, at: Reading, answer: Answer, error: bool, release: bool) -> Effe
             down: was_up(e),
             ..no_flags()
         },
-        ..quiet(fallen_end(e, at), answer)
+        ..quietly(fallen_end(e, at), answer)
     }
 }

@@ -5,7 +5,7 @@ ghost use Rattle.rules.specs.Exchanging.{message_by, sending, measured_line};
 ghost use Rattle.rules.specs.Exchanging.{started as started_by};
 ghost use Rattle.rules.specs.declared.act.Exchange.TheVariants.{Begin, Greet, Finish, Rise};
 
-use crate::end::{moved_end, quiet, up_flag};
+use crate::end::{moved_end, quietly, up_flag};
 use crate::line::{accepted, header, posted, risen, sent, with_began, with_offsets};
 use judge::clock::Reading;
 use rules::act::{Exchange, Measurement, Swap};
@@ -43,7 +43,7 @@ fn send(e: End, at: Reading, life: Life, line: Line, body: Body) -> Effect
 {
     Effect {
         placing: Placing::Send(message(line, at, body)),
-        ..quiet(moved_end(e, at, life, sent(line), e.ring), Answer::Handled)
+        ..quietly(moved_end(e, at, life, sent(line), e.ring), Answer::Handled)
     }
 }
 
@@ -84,6 +84,6 @@ fn rise(e: End, h: Header, at: Reading) -> Effect
     let line = risen(accepted(e.line, h, at), at);
     Effect {
         flags: up_flag(),
-        ..quiet(moved_end(e, at, Life::Up, line, e.ring), Answer::Handled)
+        ..quietly(moved_end(e, at, Life::Up, line, e.ring), Answer::Handled)
     }
 }

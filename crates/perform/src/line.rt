@@ -1,5 +1,7 @@
 // How a connection's numbers, stamps and times change.
 //
+// A line is made anew and not stored into: a struct that is stored into is moved in pieces of eight bytes.
+//
 // Functions and no methods: an inherent impl has to stand in the crate of its type, and `rules` holds types alone.
 ghost use Rattle.std.specs.Prelude.{◌≡◌};
 ghost use Rattle.rules.specs.State.{blank_line, new_line};

@@ -3,7 +3,7 @@ ghost use Rattle.std.specs.Prelude.{◌≡◌};
 ghost use Rattle.rules.specs.Perform.{performed};
 
 use crate::connecting::moved;
-use crate::end::{noted_end, quiet};
+use crate::end::{noted_end, quietly};
 use crate::exchanging::started;
 use crate::talking::{heard, said};
 use judge::clock::Reading;
@@ -16,8 +16,8 @@ pub fn perform(e: End, act: Act, at: Reading) -> Effect
     ensures { result ≡ performed e act at }
 {
     match act {
-        Act::Stay(answer) => quiet(e, answer),
-        Act::Note(answer) => quiet(noted_end(e, at), answer),
+        Act::Stay(answer) => quietly(e, answer),
+        Act::Note(answer) => quietly(noted_end(e, at), answer),
         Act::Move(m) => moved(e, m, at),
         Act::Start(x) => started(e, x, at),
         Act::Hear(v) => heard(e, v, at),

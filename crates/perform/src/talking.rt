@@ -5,7 +5,7 @@ ghost use Rattle.rules.specs.Talking.{heard as heard_by, said as said_by};
 ghost use Rattle.rules.specs.declared.act.Verdict.TheVariants.{Deliver, Report};
 ghost use Rattle.rules.specs.declared.act.Speech.TheVariants.{Quiet, Beat, Speak, Drain, Hold};
 
-use crate::end::{error_flag, moved_end, quiet};
+use crate::end::{error_flag, moved_end, quietly};
 use crate::exchanging::message;
 use crate::line::{accepted, delivered, sent, spoken, with_busy, with_failures};
 use judge::clock::Reading;
@@ -50,7 +50,7 @@ fn report(e: End, answer: Answer, failures: u8, at: Reading) -> Effect
     let end = moved_end(e, at, e.life, with_failures(e.line, failures), e.ring);
     Effect {
         flags: error_flag(true),
-        ..quiet(end, answer)
+        ..quietly(end, answer)
     }
 }
 
@@ -73,7 +73,7 @@ fn say(e: End, at: Reading, ring: Ring, placing: Placing) -> Effect
     let end = moved_end(e, at, e.life, sent(spoken(e.line, at)), ring);
     Effect {
         placing,
-        ..quiet(end, Answer::Handled)
+        ..quietly(end, Answer::Handled)
     }
 }
 
@@ -81,7 +81,7 @@ fn keep_quiet(e: End, at: Reading) -> Effect
     ensures { result ≡ said_by e Quiet at }
 {
     let end = moved_end(e, at, e.life, with_busy(e.line, false), e.ring);
-    quiet(end, Answer::Handled)
+    quietly(end, Answer::Handled)
 }
 
 fn beat(e: End, at: Reading) -> Effect
@@ -124,6 +124,6 @@ fn hold(e: End, at: Reading) -> Effect
     let end = moved_end(e, at, e.life, e.line, longer_of(e.ring));
     Effect {
         placing: Placing::Store(e.ring),
-        ..quiet(end, Answer::Handled)
+        ..quietly(end, Answer::Handled)
     }
 }
