@@ -1,37 +1,38 @@
 -- A line of hexadecimal digits, read character by character into bytes.
-use Rattle.std.specs.Prelude.{ℕ, ◌+◌, ◌-◌, ◌*◌, ◌%◌, true, false, cond, List, ltb, eqb, length, set}
-use Rattle.inspect.specs.declared.hex.Line.{Line}
+use Rattle.std.specs.Prelude.{ℕ, ◌+◌, ◌-◌, ◌*◌, Bool, true, false, Option, None, Some, List, [], ◌∷◌, ◌++◌, length, if◌then◌else◌, ◌==◌, ◌&&◌, nat_lt, nat_le}
+use Rattle.inspect.specs.declared.hex.TheConstants.{ROOM}
 
--- the value of a digit, and 16 for what is none
-abbrev pub nibble_of : ℕ → ℕ
+-- how much of a line has been read: its whole bytes, the first digit of the next, whether something
+-- else than digits and spaces was met or too many digits, and whether a note has begun
+pub record Read : Type 0 where
+  pub bytes : List ℕ
+  pub high : Option ℕ
+  pub bad : Bool
+  pub note : Bool
+
+abbrev pub fresh : Read
+fresh = record { bytes = []; high = None; bad = false; note = false }
+
+-- the value of a digit
+abbrev pub nibble_of : ℕ → Option ℕ
 nibble_of c =
-    cond (ltb c 48) 16 (cond (ltb c 58) (c - 48) (cond (ltb c 97) 16 (cond (ltb c 103) (c - 87) 16)))
+    if nat_le 48 c && nat_le c 57 then Some (c - 48) else if nat_le 97 c && nat_le c 102 then Some (c - 87) else None
 
-abbrev pub spoiled : Line → Line
-spoiled l = record { len = l.len; high = l.high; odd = l.odd; bad = true; note = l.note }
+abbrev pub spoiled : Read → Read
+spoiled l = record l { bad = true }
 
-abbrev pub noted : Line → Line
-noted l = record { len = l.len; high = l.high; odd = l.odd; bad = l.bad; note = true }
+-- the line after the digit d, where its byte has a first digit or none
+abbrev pub after : Read → Option ℕ → ℕ → Read
+after l None d = record l { high = Some d }
+after l (Some h) d =
+    if nat_lt (length l.bytes) ROOM then record l { bytes = l.bytes ++ (h * 16 + d) ∷ []; high = None } else spoiled l
 
--- with d as the first digit of a byte, and with a byte completed
-abbrev pub opened : Line → ℕ → Line
-opened l d = record { len = l.len; high = d; odd = true; bad = l.bad; note = l.note }
-
-abbrev pub closed : Line → Line
-closed l = record { len = l.len + 1; high = l.high; odd = false; bad = l.bad; note = l.note }
-
--- the line after the digit d, 16 for what is none, where room bytes can be held
-abbrev pub digit_line : Line → ℕ → ℕ → Line
-digit_line l d room =
-    cond (eqb d 16) (spoiled l) (cond l.odd (cond (ltb l.len room) (closed l) (spoiled l)) (opened l d))
-
-abbrev pub digit_bytes : Line → ℕ → List ℕ → List ℕ
-digit_bytes l d s =
-    cond (eqb d 16) s (cond l.odd (cond (ltb l.len (length s)) (set s l.len (l.high % 16 * 16 + d)) s) s)
+-- the line after a digit, or after what is none
+abbrev pub with_digit : Read → Option ℕ → Read
+with_digit l None = spoiled l
+with_digit l (Some d) = after l l.high d
 
 -- after one character: a note lasts to the end of the line, a space says nothing
-abbrev pub fed_line : Line → ℕ → List ℕ → Line
-fed_line l c s = cond l.note l (cond (eqb c 35) (noted l) (cond (eqb c 32) l (digit_line l (nibble_of c) (length s))))
-
-abbrev pub fed_bytes : Line → ℕ → List ℕ → List ℕ
-fed_bytes l c s = cond l.note s (cond (eqb c 35) s (cond (eqb c 32) s (digit_bytes l (nibble_of c) s)))
+abbrev pub fed : Read → ℕ → Read
+fed l c =
+    if l.note then l else if c == 35 then record l { note = true } else if c == 32 then l else with_digit l (nibble_of c)

@@ -1,95 +1,83 @@
 // A line of hexadecimal digits on its way to bytes.
-ghost use Rattle.std.specs.Prelude.{◌≡◌, true, false, ◌≤◌, length};
-ghost use Rattle.inspect.specs.Hex.{nibble_of, fed_line, fed_bytes, digit_line, digit_bytes};
+ghost use Rattle.std.specs.Prelude.{◌≡◌, ◌<◌, IfSome};
+ghost use Rattle.inspect.specs.Hex.{Read, nibble_of, fresh, fed, with_digit};
+
+use arrayvec::ArrayVec;
+use std::marker::Model;
+
+// The most bytes of a line.
+pub const ROOM: usize = 256;
 
 // How much of a line has been read.
-#[derive(Clone, Copy)]
+#[derive(Drop)]
 pub struct Line {
     // The whole bytes so far.
-    pub len: usize,
-    // The first digit of the next byte, if `odd`.
-    pub high: u8,
-    pub odd: bool,
+    pub bytes: ArrayVec<u8, ROOM>,
+    // The first digit of the next byte, once it has come.
+    pub high: Option<u8>,
     // Something else than digits and spaces was met, or too many digits.
     pub bad: bool,
     // A note has begun.
     pub note: bool,
 }
 
-pub fn fresh() -> Line
-    ensures { result ≡ record { len = 0; high = 0; odd = false; bad = false; note = false } }
-{
-    Line {
-        len: 0,
-        high: 0,
-        odd: false,
-        bad: false,
-        note: false,
-    }
+impl Model for Line {
+    ghost Value = { Read };
+
+    ghost view = { λ l. record { bytes = l.bytes.items; high = l.high; bad = l.bad; note = l.note } };
+
+    ghost invariant = { λ l. IfSome l.high (λ d. d < 16) };
 }
 
-// The value of a digit, and 16 for what is none.
-fn nibble(c: u8) -> u8
-    ensures { (result ≡ nibble_of c) × (result ≤ 16) }
-{
-    if c < 48 {
-        return 16;
-    }
-    if c < 58 {
-        return c - 48;
-    }
-    if c < 97 {
-        return 16;
-    }
-    if c < 103 {
-        return c - 87;
-    }
-    16
-}
-
-// The line after one more character, and the byte that it may have completed.
-pub fn feed(l: Line, c: u8, bytes: &mut [u8]) -> Line
-    ensures value { result ≡ fed_line l c bytes.old }
-    ensures bytes_after { bytes.new ≡ fed_bytes l c bytes.old }
-{
-    if l.note {
-        return l;
-    }
-    if c == 35 {
-        let mut next = l;
-        next.note = true;
-        return next;
-    }
-    if c == 32 {
-        return l;
-    }
-    digit(l, nibble(c), bytes)
-}
-
-// The line after a digit, 16 for what is none.
-fn digit(l: Line, d: u8, bytes: &mut [u8]) -> Line
-    requires { d ≤ 16 }
-    ensures value { result ≡ digit_line l d (length bytes.old) }
-    ensures bytes_after { bytes.new ≡ digit_bytes l d bytes.old }
-{
-    let at = l.len;
-    let high = l.high % 16;
-    let mut next = l;
-    if d == 16 {
-        next.bad = true;
-        return next;
-    }
-    if l.odd {
-        if at < bytes.len() {
-            bytes[at] = high * 16 + d;
-            next.len = at + 1;
-            next.odd = false;
-            return next;
+impl Line {
+    pub fn new() -> Self
+        ensures { result ≡ fresh }
+    {
+        Line {
+            bytes: ArrayVec::new(),
+            high: None,
+            bad: false,
+            note: false,
         }
-        next.bad = true;
-        return next;
     }
-    next.high = d;
-    next.odd = true;
-    next
+
+    // Takes one more character.
+    pub fn feed(&mut self, character: u8)
+        ensures { self.new ≡ fed self.old character }
+    {
+        if self.note {
+            return;
+        }
+        match character {
+            b'#' => self.note = true,
+            b' ' => {}
+            _ => self.take_digit(character),
+        }
+    }
+
+    // Takes a digit; what is none spoils the line.
+    fn take_digit(&mut self, character: u8)
+        ensures { self.new ≡ with_digit self.old (nibble_of character) }
+    {
+        match (self.high, nibble(character)) {
+            (_, None) => self.bad = true,
+            (None, low) => self.high = low,
+            (Some(high), Some(low)) => match self.bytes.try_push(high * 16 + low) {
+                Ok(()) => self.high = None,
+                Err(_) => self.bad = true,
+            },
+        }
+    }
+}
+
+// The value of a digit.
+fn nibble(character: u8) -> Option<u8>
+    ensures value { result ≡ nibble_of character }
+    ensures small { IfSome result (λ d. d < 16) }
+{
+    match character {
+        b'0'..=b'9' => Some(character - b'0'),
+        b'a'..=b'f' => Some(character - b'a' + 10),
+        _ => None,
+    }
 }

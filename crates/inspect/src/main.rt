@@ -8,26 +8,19 @@
 mod hex;
 mod show;
 
+use hex::Line;
 use std::io;
-use std::io::Read;
+use std::io::{BufReader, Read};
 
 fn main(rt: HostRuntime) -> io::Result<()> {
-    let mut stdin = rt.stdin();
-    let mut input = [0u8; 65536];
-    let mut bytes = [0u8; 256];
-    let mut line = hex::fresh();
-    for _ in 0..u64::MAX {
-        let got = stdin.read(&mut input)?;
-        if got == 0 {
-            return Ok(());
-        }
-        for c in &input[..got] {
-            if *c == 10 {
-                show::show(&rt, line, &bytes)?;
-                line = hex::fresh();
-            } else {
-                line = hex::feed(line, *c, &mut bytes);
+    let mut line = Line::new();
+    for byte in BufReader::new(rt.alloc(), rt.stdin())?.bytes() {
+        match byte? {
+            b'\n' => {
+                show::show(&rt, &line)?;
+                line = Line::new();
             }
+            character => line.feed(character),
         }
     }
     Ok(())
