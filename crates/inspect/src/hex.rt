@@ -1,6 +1,6 @@
 // A line of hexadecimal digits on its way to bytes.
 ghost use Rattle.std.specs.Prelude.{◌≡◌, ◌<◌, IfSome};
-ghost use Rattle.inspect.specs.Hex.{Read, nibble_of, fresh, fed, with_digit};
+ghost use Rattle.inspect.specs.Hex.{Read, nibble_of, fed, with_digit};
 
 use arrayvec::ArrayVec;
 use std::marker::Model;
@@ -9,7 +9,7 @@ use std::marker::Model;
 pub const ROOM: usize = 256;
 
 // How much of a line has been read.
-#[derive(Drop)]
+#[derive(Default, Drop)]
 pub struct Line {
     // The whole bytes so far.
     pub bytes: ArrayVec<u8, ROOM>,
@@ -30,17 +30,6 @@ impl Model for Line {
 }
 
 impl Line {
-    pub fn new() -> Self
-        ensures { result ≡ fresh }
-    {
-        Line {
-            bytes: ArrayVec::new(),
-            high: None,
-            bad: false,
-            note: false,
-        }
-    }
-
     // Takes one more character.
     pub fn feed(&mut self, character: u8)
         ensures { self.new ≡ fed self.old character }

@@ -13,12 +13,12 @@ use std::io;
 use std::io::{BufReader, Read};
 
 fn main(rt: HostRuntime) -> io::Result<()> {
-    let mut line = Line::new();
+    let mut line = Line::default();
     for byte in BufReader::new(rt.alloc(), rt.stdin())?.bytes() {
         match byte? {
             b'\n' => {
                 show::show(&rt, &line)?;
-                line = Line::new();
+                line = Line::default();
             }
             character => line.feed(character),
         }

@@ -23,28 +23,23 @@ fn main(rt: HostRuntime) -> io::Result<()> {
     let mut input = [0u8; 85];
     input::fill(&mut rt.stdin(), &mut input)?;
     let at = Reading(read_u32(&input, 81));
-    let Ok(fresh) = make(Role::Called, at, timed::settings()) else {
+    let Ok(mut end) = make(Role::Called, at, timed::settings()) else {
         return Ok(());
     };
-    let mut end = fresh;
-    let mut delivered: u32 = 0;
-    let mut turn: u32 = 0;
-    while turn < EVENTS {
-        let start = timed::start_of(turn);
-        let stop = timed::stop_of(turn);
-        write_u16(&mut input, start + 1, timed::number_at(turn));
+    let mut delivered = 0;
+    for turn in 0..EVENTS {
+        let span = timed::span_of(turn);
+        write_u16(&mut input, span.start + 1, timed::number_at(turn));
         let outcome = step(
             end,
             timed::event_at(turn),
             at,
-            &input[start..stop],
+            &input[span],
             &mut out,
             &mut q,
         );
-        let front = outcome.front;
         end = outcome.end;
-        delivered += timed::is_datum(front);
-        turn += 1;
+        delivered += u32::from(timed::is_datum(outcome.front));
     }
     println!(rt; "{delivered} delivered")
 }
