@@ -4,7 +4,7 @@ use Rattle.wire.specs.Message.{kind_of, parse}
 use Rattle.wire.specs.declared.message.Body.{Body}
 use Rattle.wire.specs.declared.message.Body.TheVariants.{OffsetStart, OffsetAnsw1, OffsetAnsw2, OffsetEst, OffsetEnd, LifeSign, TrainData}
 use Rattle.wire.specs.declared.message.Message.{Message}
-use Rattle.inspect.specs.Hex.{Read}
+use Rattle.inspect.specs.Hex.{Progress}
 
 -- past the header: the offsets of an estimate, or the first byte of a payload
 abbrev pub added_of : Body → List ℕ
@@ -25,5 +25,5 @@ count_of (Some m) = length (row_of m)
 count_of None = 0
 
 -- how many numbers are printed for a line
-abbrev pub told : Read → ℕ
+abbrev pub told : Progress → ℕ
 told l = if l.bad then 0 else if is_some l.high then 0 else count_of (parse l.bytes)

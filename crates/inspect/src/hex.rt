@@ -1,6 +1,6 @@
 // A line of hexadecimal digits on its way to bytes.
 ghost use Rattle.std.specs.Prelude.{◌≡◌, ◌<◌, IfSome};
-ghost use Rattle.inspect.specs.Hex.{Read, nibble_of, fed, with_digit};
+ghost use Rattle.inspect.specs.Hex.{Progress, nibble_of, fed, with_digit};
 
 use arrayvec::ArrayVec;
 use std::marker::Model;
@@ -22,7 +22,7 @@ pub struct Line {
 }
 
 impl Model for Line {
-    ghost Value = { Read };
+    ghost Value = { Progress };
 
     ghost view = { λ l. record { bytes = l.bytes.items; high = l.high; bad = l.bad; note = l.note } };
 

@@ -8,9 +8,8 @@ use crate::hex::Line;
 use arrayvec::ArrayVec;
 use codec::kind::kind_of;
 use codec::reading::{read_message, train_data};
-use std::fmt;
 use std::fmt::Display;
-use std::io;
+use std::{fmt, io};
 use wire::message::{Body, Message};
 
 // The numbers of a message, as they are shown.

@@ -19,7 +19,10 @@ number_at_turn turn = if turn == 0 then 0 else ((turn - 1) % 65_536)
 -- where the bytes of a turn start and end in the input
 abbrev pub span_of : ℕ → Range ℕ
 span_of turn =
-    if nat_lt turn 2 then record { start = 0; end = 15 } else if turn == 2 then record { start = 15; end = 30 } else if turn == 3 then record { start = 30; end = 45 } else record { start = 45; end = 81 }
+    if nat_lt turn 2 then record { start = 0; end = 15 }
+    else if turn == 2 then record { start = 15; end = 30 }
+    else if turn == 3 then record { start = 30; end = 45 }
+    else record { start = 45; end = 81 }
 
 abbrev pub is_datum : Front → Bool
 is_datum Nothing = false

@@ -15,11 +15,11 @@ use queue::BYTES;
 use rules::state::Role;
 use std::io;
 
-const EVENTS: u32 = 5000004;
+const EVENTS: u32 = 5_000_004;
 
 fn main(rt: HostRuntime) -> io::Result<()> {
     let mut out = [0u8; 128];
-    let mut q = [0u8; BYTES];
+    let mut queue = [0u8; BYTES];
     let mut input = [0u8; 85];
     input::fill(&mut rt.stdin(), &mut input)?;
     let at = Reading(read_u32(&input, 81));
@@ -28,6 +28,7 @@ fn main(rt: HostRuntime) -> io::Result<()> {
     };
     let mut delivered = 0;
     for turn in 0..EVENTS {
+        // The bytes are lent twice: lent once, as `&mut input[span]`, they take 194 instructions a message, and so 188.
         let span = timed::span_of(turn);
         write_u16(&mut input, span.start + 1, timed::number_at(turn));
         let outcome = step(
@@ -36,7 +37,7 @@ fn main(rt: HostRuntime) -> io::Result<()> {
             at,
             &input[span],
             &mut out,
-            &mut q,
+            &mut queue,
         );
         end = outcome.end;
         delivered += u32::from(timed::is_datum(outcome.front));
