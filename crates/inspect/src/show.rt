@@ -1,8 +1,9 @@
 // A message as a row of numbers, printed.
-ghost use Rattle.std.specs.Prelude.{◌≡◌, length, IfOk};
-ghost use Rattle.arrayvec.specs.ArrayVec.{array_vec_len};
+ghost use Rattle.std.specs.Prelude.{◌≡◌, IfOk, Some};
+ghost use Rattle.std.specs.List.{flat_map};
 ghost use Rattle.wire.specs.Message.{parse};
 ghost use Rattle.inspect.specs.Row.{row_of, count_of, told};
+ghost use Rattle.inspect.specs.Text.{spaced, byte_of};
 
 use crate::hex::Line;
 use arrayvec::ArrayVec;
@@ -16,10 +17,10 @@ use wire::message::{Body, Message};
 #[derive(Drop)]
 struct Row(ArrayVec<u32, 7>);
 
-impl Row {
-    fn new(message: Message) -> Self
-        ensures { result.0.items ≡ row_of message }
-    {
+impl From<Message> for Row {
+    ghost from_gives = { λ message row. row.0.items ≡ row_of message };
+
+    fn from(message: Message) -> Self {
         let stamps = message.header.stamps;
         let mut numbers = ArrayVec::new();
         numbers.push(u32::from(kind_of(message.body)));
@@ -41,11 +42,15 @@ impl Row {
 }
 
 impl Display for Row {
+    ghost output = { λ r. Some (spaced r.0.items) };
+
     fn fmt<W: fmt::Write>(&self, f: &mut fmt::Formatter<W>) -> fmt::Result {
-        let mut gap = "";
-        for number in self.0.as_slice() {
-            write!(f, "{gap}{number}")?;
-            gap = " ";
+        let Some((first, rest)) = self.0.split_first() else {
+            return Ok(());
+        };
+        write!(f, "{first}")?;
+        for number in rest {
+            write!(f, " {number}")?;
         }
         Ok(())
     }
@@ -56,8 +61,10 @@ impl Display for Row {
 struct Hex<'a>(&'a [u8]);
 
 impl Display for Hex<'_> {
+    ghost output = { λ h. Some (flat_map byte_of h.0.now) };
+
     fn fmt<W: fmt::Write>(&self, f: &mut fmt::Formatter<W>) -> fmt::Result {
-        for byte in self.0 {
+        for &byte in self.0 {
             write!(f, "{byte:02x}")?;
         }
         Ok(())
@@ -84,7 +91,7 @@ pub fn show(rt: &impl Print, line: &Line) -> io::Result<usize>
         }
         return Ok(0);
     };
-    let row = Row::new(message);
+    let row = Row::from(message);
     if let Body::TrainData = message.body {
         println!(rt; "{row} {}", Hex(train_data(bytes)))?;
     } else {
