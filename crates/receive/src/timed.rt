@@ -1,27 +1,23 @@
 // What the timed run is made of: event 0 is a connect indication, events 1 to 3 are the peer's messages
 // of the start, and all others are train data.
 ghost use Rattle.std.specs.Prelude.{◌≡◌, ◌≤◌};
-ghost use Rattle.receive.specs.Timed.{settings_of, event_at, number_at_turn, span_of, is_datum};
+ghost use Rattle.receive.specs.Timed.{event_at, number_at_turn, span_of, is_datum};
 
 use rules::act::Event;
 use rules::effect::Front;
 use rules::settings::Settings;
 use std::ops::Range;
 
-pub fn settings() -> Settings
-    ensures { result ≡ settings_of }
-{
-    Settings {
-        age: 50,
-        spread: 20,
-        silence: 300,
-        life_sign: 100,
-        wait: 500,
-        retry: 1000,
-        jump: 4,
-        errors: 2,
-    }
-}
+pub const SETTINGS: Settings = Settings {
+    age: 50,
+    spread: 20,
+    silence: 300,
+    life_sign: 100,
+    wait: 500,
+    retry: 1000,
+    jump: 4,
+    errors: 2,
+};
 
 pub fn event_at(turn: u32) -> Event
     ensures { result ≡ event_at turn }
