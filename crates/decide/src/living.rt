@@ -110,6 +110,7 @@ fn may_ask(e: End, at: Reading) -> bool
 pub fn on_idle_tick(e: End, at: Reading) -> Act
     ensures { result ≡ on_idle_tick e.role e at }
 {
+    // From a local, as role and life are to be matched (docs/DECISIONS.md, "Forms of the code that were asked for").
     let role = e.role;
     match role {
         Role::Initiator if may_ask(e, at) => Act::Move(ConnectionMove::Ask),

@@ -18,6 +18,7 @@ pub fn on_start(h: Header) -> Act
     }))
 }
 
+// The two answers keep a function each, whose contract is the definition of the law that has its name.
 pub fn on_answer1(e: End, at: Reading, h: Header) -> Act
     ensures { result ≡ on_answer1 e at h }
 {
