@@ -1,5 +1,5 @@
 -- A line of hexadecimal digits, read character by character into bytes.
-use Rattle.std.specs.Prelude.{ℕ, ◌+◌, ◌-◌, ◌*◌, Bool, true, Option, None, Some, List, [], ◌∷◌, ◌++◌, length, if◌then◌else◌, ◌==◌, ◌&&◌, nat_lt, nat_le}
+use Rattle.std.specs.Prelude.{ℕ, ◌+◌, ◌-◌, ◌*◌, ◌%◌, Bool, true, Option, None, Some, List, [], ◌∷◌, ◌++◌, length, if◌then◌else◌, ◌==◌, ◌&&◌, nat_lt, nat_le}
 use Rattle.inspect.specs.declared.hex.TheConstants.{ROOM}
 
 -- how much of a line has been read: its whole bytes, the first digit of the next, whether something
@@ -22,7 +22,7 @@ spoiled l = record l { bad = true }
 abbrev pub after : Progress → Option ℕ → ℕ → Progress
 after l None d = record l { high = Some d }
 after l (Some h) d =
-    if nat_lt (length l.bytes) ROOM then record l { bytes = l.bytes ++ (h * 16 + d) ∷ []; high = None } else spoiled l
+    if nat_lt (length l.bytes) ROOM then record l { bytes = l.bytes ++ (h % 16 * 16 + d) ∷ []; high = None } else spoiled l
 
 -- the line after a digit, or after what is none
 abbrev pub with_digit : Progress → Option ℕ → Progress

@@ -25,8 +25,6 @@ impl Model for Line {
     ghost Value = { Progress };
 
     ghost view = { λ l. record { bytes = l.bytes.items; high = l.high; bad = l.bad; note = l.note } };
-
-    ghost invariant = { λ l. IfSome l.high (λ d. d < 16) };
 }
 
 impl Line {
@@ -51,7 +49,7 @@ impl Line {
         match (self.high, nibble(character)) {
             (_, None) => self.bad = true,
             (None, low) => self.high = low,
-            (Some(high), Some(low)) => match self.bytes.try_push(high * 16 + low) {
+            (Some(high), Some(low)) => match self.bytes.try_push(high % 16 * 16 + low) {
                 Ok(()) => self.high = None,
                 Err(_) => self.bad = true,
             },

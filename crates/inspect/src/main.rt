@@ -10,17 +10,26 @@ mod show;
 
 use hex::Line;
 use std::io;
-use std::io::{BufReader, Read};
+use std::io::Read;
 
 fn main(rt: HostRuntime) -> io::Result<()> {
+    let mut stdin = rt.stdin();
+    let mut input = [0u8; 65536];
     let mut line = Line::default();
-    for byte in BufReader::new(rt.alloc(), rt.stdin())?.bytes() {
-        match byte? {
-            b'\n' => {
-                show::show(&rt, &line)?;
-                line = Line::default();
+    // The turns are counted, since a loop over a live input has no measure; a `BufReader` would do without, and needs the heap.
+    for _ in 0..u64::MAX {
+        let got = stdin.read(&mut input)?;
+        if got == 0 {
+            return Ok(());
+        }
+        for character in &input[..got] {
+            match *character {
+                b'\n' => {
+                    show::show(&rt, &line)?;
+                    line = Line::default();
+                }
+                character => line.feed(character),
             }
-            character => line.feed(character),
         }
     }
     Ok(())
