@@ -1,39 +1,33 @@
 -- Laws of the words of a line: outputs one after the other, and the one order of them.
 use Prim.Native.Nat.{ℕ, ◌<◌}
 use native.Mathlib.Omega.{arith}
-use mathlib.Core.Bool.{Bool, true, false, cond}
 use mathlib.Core.List.{List, [], ◌∷◌, ◌++◌, append_assoc, append-nil}
 use mathlib.Core.Path.{◌≡◌, refl, ap, sym, subst, ◌∙◌}
-use Rattle.rules.specs.Outputs.{Output, reported, front_output, outputs_of}
+use Rattle.rules.specs.Outputs.{Output, front_output, outputs_of}
 use Rattle.rules.specs.Answers.{number_of}
 use Rattle.rules.specs.declared.answer.Answer.{Answer}
 use Rattle.rules.specs.declared.answer.Answer.TheVariants.{Handled, OutOfRange, ClockBack, NoRule, BadLength, QueueFull, Malformed, NotAwaited, StartFailed, Old, Lost, Late, Silent, Gap, NoRoom}
 use Rattle.rules.specs.declared.effect.Flags.{Flags}
 use Rattle.rules.specs.declared.effect.Front.{Front}
-use Rattle.script.specs.Put.{Put}
 use Rattle.script.specs.Lines.{word_of, words_of}
 use Rattle.player.specs.Reports.{earlier, later}
-use Rattle.player.proofs.Puts.{put_then}
+use Rattle.player.specs.Puts.{Puts}
+use Rattle.player.specs.declared.text.Text.{Text}
+use Rattle.player.proofs.Putting.{puts_then}
 
 words_append : (os ps : List Output) → words_of (os ++ ps) ≡ words_of os ++ words_of ps
 words_append [] ps = refl
 words_append (o ∷ os) ps = ap (λ (l : List ℕ). word_of o ++ l) (words_append os ps) ∙ sym (append_assoc (word_of o) (words_of os) (words_of ps))
 
-pub put_words : (os ps : List Output) {l m n : List ℕ} {i j k : ℕ} → Put l i (words_of os) m j → Put m j (words_of ps) n k
-    → Put l i (words_of (os ++ ps)) n k
-put_words os ps p q = rw words_append (put_then (words_of os) (words_of ps) p q)
+pub puts_words : (os ps : List Output) {s t u : Text} → Puts s (words_of os) t → Puts t (words_of ps) u → Puts s (words_of (os ++ ps)) u
+puts_words os ps p q = rw words_append (puts_then (words_of os) (words_of ps) p q)
 
-pub put_output : (o : Output) {l m : List ℕ} {i j : ℕ} → Put l i (word_of o) m j → Put l i (words_of (o ∷ [])) m j
-put_output o p = rw append-nil p
-
--- the word of a report is put where there is something to report
-pub put_report : (it : Bool) (o : Output) {l m : List ℕ} {i j : ℕ} → Put l i (cond it (word_of o) []) m j → Put l i (words_of (reported it o)) m j
-put_report true o p = put_output o p
-put_report false o p = p
+pub puts_output : (o : Output) {s t : Text} → Puts s (word_of o) t → Puts s (words_of (o ∷ [])) t
+puts_output o p = rw append-nil p
 
 -- reports, what stands at the front of the output, reports
-pub in_order_lem : (f : Flags) (front : Front) (out : List ℕ) → outputs_of f front out ≡ earlier f ++ front_output front out ++ later f
-in_order_lem f front out = simp append_assoc
+pub outputs_in_order : (f : Flags) (front : Front) (out : List ℕ) → outputs_of f front out ≡ earlier f ++ front_output front out ++ later f
+outputs_in_order f front out = simp append_assoc
 
 -- ---- numbers of answers have two digits at most
 

@@ -1,81 +1,84 @@
 // The line that answers an event.
-ghost use Rattle.std.specs.Prelude.{◌≡◌, ◌++◌, ◌+◌, ◌*◌, ◌≤◌, ◌<◌, length};
+ghost use Rattle.std.specs.Prelude.{◌++◌, ◌+◌, ◌*◌, ◌≤◌, length};
 ghost use Rattle.rules.specs.Answers.{number_of};
 ghost use Rattle.rules.specs.Decide.{least_room};
 ghost use Rattle.rules.specs.Outputs.{front_output, outputs_of};
+ghost use Rattle.player.specs.Puts.{Puts, room_of};
 ghost use Rattle.player.specs.Reports.{earlier, later};
 ghost use Rattle.script.specs.Lines.{words_of, answer_line, line_room};
-ghost use Rattle.script.specs.Put.{Put};
-ghost use Rattle.script.specs.Words.{hex_of};
+ghost use Rattle.script.specs.Words.{decimal_of, hex_of};
 
 use crate::part::first;
-use crate::text::{put, put_hex, put_if, put_number};
+use crate::text::Text;
 use link::answer::number;
 use rules::answer::Answer;
 use rules::effect::{Flags, Front};
 
-// The number, then the outputs in order, then a line end. `out` is the output after the event.
-pub fn put_line(
-    text: &mut [u8],
-    at: usize,
-    answer: Answer,
-    flags: Flags,
-    front: Front,
-    out: &[u8],
-) -> usize
-    requires { (at + line_room ≤ length text.old) × (length out.now ≤ least_room) }
-    ensures { Put text.old at (answer_line answer (outputs_of flags front out.now)) text.new result × (result ≤ at + line_room) }
-{
-    let a = put_number(text, at, number_of(answer));
-    let b = put_earlier(text, a, flags);
-    let c = put_front(text, b, front, out);
-    let d = put_later(text, c, flags);
-    put(text, d, b"\n")
-}
-
-// What is reported before a message or datum.
-fn put_earlier(text: &mut [u8], at: usize, flags: Flags) -> usize
-    requires { at + 11 ≤ length text.old }
-    ensures { Put text.old at (words_of (earlier flags)) text.new result × (result ≤ at + 11) }
-{
-    let a = put_if(text, at, flags.ask, b" ask");
-    put_if(text, a, flags.accept, b" accept")
-}
-
-// What is reported after it.
-fn put_later(text: &mut [u8], at: usize, flags: Flags) -> usize
-    requires { at + 22 ≤ length text.old }
-    ensures { Put text.old at (words_of (later flags)) text.new result × (result ≤ at + 22) }
-{
-    let a = put_if(text, at, flags.up, b" up");
-    let b = put_if(text, a, flags.error, b" error");
-    let c = put_if(text, b, flags.release, b" release");
-    put_if(text, c, flags.down, b" down")
-}
-
-// The message or datum at the front of the output.
-fn put_front(text: &mut [u8], at: usize, front: Front, out: &[u8]) -> usize
-    requires { at + (6 + 2 * length out.now) ≤ length text.old }
-    ensures { Put text.old at (words_of (front_output front out.now)) text.new result × (result ≤ at + (6 + 2 * length out.now)) }
-{
-    match front {
-        Front::Nothing => at,
-        Front::Message(n) => put_shown(text, at, b" send ", first(out, n)),
-        Front::Datum(n) => put_shown(text, at, b" data ", first(out, n)),
+impl Text<'_> {
+    // The number, then the outputs in order, then a line end. `out` is the output after the event.
+    pub fn put_line(&mut self, answer: Answer, flags: Flags, front: Front, out: &[u8])
+        requires room { line_room ≤ room_of self.old }
+        requires fits { length out.now ≤ least_room }
+        ensures { Puts self.old (answer_line answer (outputs_of flags front out.now)) self.new }
+    {
+        self.put_answer(answer);
+        self.put_earlier(flags);
+        self.put_front(front, out);
+        self.put_later(flags);
+        self.put(b"\n");
     }
-}
 
-fn put_shown(text: &mut [u8], at: usize, word: &[u8], given: &[u8]) -> usize
-    requires { at + (length word.now + 2 * length given.now) ≤ length text.old }
-    ensures { Put text.old at (word.now ++ hex_of given.now) text.new result }
-{
-    let a = put(text, at, word);
-    put_hex(text, a, given)
-}
+    // The number of an answer, which has two digits at most.
+    #[tactic(auto, using(crate::proofs::Lines::number_small))]
+    pub fn put_answer(&mut self, answer: Answer)
+        requires { 2 ≤ room_of self.old }
+        ensures puts { Puts self.old (decimal_of (number_of answer)) self.new }
+        ensures room { room_of self.old ≤ room_of self.new + 2 }
+    {
+        self.put_number(number(answer));
+    }
 
-// The number of an answer, which has two digits at most.
-pub fn number_of(answer: Answer) -> u8
-    ensures { (result ≡ number_of answer) × (result < 100) }
-{
-    number(answer)
+    // What is reported before a message or datum.
+    fn put_earlier(&mut self, flags: Flags)
+        requires { 11 ≤ room_of self.old }
+        ensures puts { Puts self.old (words_of (earlier flags)) self.new }
+        ensures room { room_of self.old ≤ room_of self.new + 11 }
+    {
+        self.put_if(flags.ask, b" ask");
+        self.put_if(flags.accept, b" accept");
+    }
+
+    // What is reported after it.
+    fn put_later(&mut self, flags: Flags)
+        requires { 22 ≤ room_of self.old }
+        ensures puts { Puts self.old (words_of (later flags)) self.new }
+        ensures room { room_of self.old ≤ room_of self.new + 22 }
+    {
+        self.put_if(flags.up, b" up");
+        self.put_if(flags.error, b" error");
+        self.put_if(flags.release, b" release");
+        self.put_if(flags.down, b" down");
+    }
+
+    // The message or datum at the front of the output.
+    fn put_front(&mut self, front: Front, out: &[u8])
+        requires { 6 + 2 * length out.now ≤ room_of self.old }
+        ensures puts { Puts self.old (words_of (front_output front out.now)) self.new }
+        ensures room { room_of self.old ≤ room_of self.new + (6 + 2 * length out.now) }
+    {
+        match front {
+            Front::Nothing => {}
+            Front::Message(n) => self.put_shown(b" send ", first(out, n)),
+            Front::Datum(n) => self.put_shown(b" data ", first(out, n)),
+        }
+    }
+
+    fn put_shown(&mut self, word: &[u8], given: &[u8])
+        requires { length word.now + 2 * length given.now ≤ room_of self.old }
+        ensures puts { Puts self.old (word.now ++ hex_of given.now) self.new }
+        ensures room { room_of self.old ≤ room_of self.new + (length word.now + 2 * length given.now) }
+    {
+        self.put(word);
+        self.put_hex(given);
+    }
 }

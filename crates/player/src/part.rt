@@ -3,21 +3,15 @@ ghost use Rattle.std.specs.Prelude.{◌≡◌, ◌≤◌, length, take, drop};
 
 // The first n bytes, or all where there are fewer.
 pub fn first(s: &[u8], n: usize) -> &[u8]
-    ensures result_value { result.now ≡ take n s.now }
-    ensures result_in_bounds { length result.now ≤ length s.now }
+    ensures value { result.now ≡ take n s.now }
+    ensures in_bounds { length result.now ≤ length s.now }
 {
-    if s.len() < n {
-        return s;
-    }
-    &s[0..n]
+    &s[..n.min(s.len())]
 }
 
 // What follows the first n bytes, or nothing where there are fewer.
 pub fn past(s: &[u8], n: usize) -> &[u8]
     ensures { result.now ≡ drop n s.now }
 {
-    if s.len() < n {
-        return &s[..0];
-    }
-    &s[n..]
+    &s[n.min(s.len())..]
 }

@@ -1,12 +1,14 @@
 // A script, or a piece of one, as far as the lent text has room.
 ghost use Rattle.std.specs.Prelude.{◌≡◌, ◌≤◌, length};
-ghost use Rattle.script.specs.Play.{pauses};
+ghost use Rattle.player.specs.Puts.{room_of};
+ghost use Rattle.player.specs.Replying.{PlaysPiece, held_by};
+ghost use Rattle.script.specs.Play.{pauses, played};
 ghost use Rattle.script.specs.Promise.{PlayPromise};
 ghost use Rattle.script.specs.Reply.{held_as};
 
-use crate::part::past;
 use crate::record::size_in;
-use crate::reply::reply_at;
+use crate::reply::Player;
+use crate::text::Text;
 use queue::BYTES;
 use rules::effect::ROOM;
 use rules::state::End;
@@ -23,34 +25,37 @@ pub fn play(
     q: &mut [u8; BYTES],
     text: &mut [u8],
 ) -> Played
-    ensures play_promise { PlayPromise last (held_as seat q.old out.old) s.now text.old (record { played = result; text = text.new; queue = q.new; out = out.new }) }
-    ensures used_in_bounds { (result.used ≤ length s.now) × (result.wrote ≤ length text.old) }
+    ensures promise { PlayPromise last (held_as seat q.old out.old) s.now text.old (record { played = result; text = text.new; queue = q.new; out = out.new }) }
+    ensures in_bounds { (result.used ≤ length s.now) × (result.wrote ≤ length text.old) }
 {
-    let mut held = seat;
-    let mut used = 0;
-    let mut wrote = 0;
-    loop {
-        let rest = past(s, used);
-        if pauses_at(rest, last, text.len() - wrote) {
-            return Played {
-                seat: held,
-                used,
-                wrote,
-                ended: false,
-            };
-        }
-        let r = reply_at(held, rest, out, q, text, wrote);
-        held = r.seat;
-        wrote = r.to;
-        if r.bad {
-            return Played {
-                seat: held,
-                used,
-                wrote,
-                ended: true,
-            };
-        }
-        used += size_in(rest);
+    let text = &mut Text { bytes: text, to: 0 };
+    let mut player = Player { seat, out, q, text };
+    let (used, ended) = player.play(s, last);
+    Played {
+        seat: player.seat,
+        used,
+        wrote: player.text.to,
+        ended,
+    }
+}
+
+impl Player<'_, '_> {
+    // The same: how many bytes were answered, and whether a bad record has ended the script.
+    fn play(&mut self, s: &[u8], last: bool) -> (usize, bool)
+        ensures plays { PlaysPiece (played last (held_by self.old) s.now (room_of self.old.text.now)) self.old result.0 result.1 self.new }
+        ensures in_bounds { result.0 ≤ length s.now }
+    {
+        let mut rest = s;
+        let ended = loop {
+            if pauses_at(rest, last, self.text.room()) {
+                break false;
+            }
+            if self.reply(rest) {
+                break true;
+            }
+            rest = &rest[size_in(rest)..];
+        };
+        (s.len() - rest.len(), ended)
     }
 }
 
@@ -58,14 +63,5 @@ pub fn play(
 fn pauses_at(s: &[u8], last: bool, room: usize) -> bool
     ensures { result ≡ pauses last s.now room }
 {
-    if s.len() == 0 {
-        return true;
-    }
-    if room < LINE {
-        return true;
-    }
-    if last {
-        return false;
-    }
-    s.len() < size_in(s)
+    s.is_empty() || room < LINE || (!last && s.len() < size_in(s))
 }
