@@ -25,21 +25,16 @@ fn main(rt: HostRuntime) -> io::Result<()> {
     let mut start = 0;
     let mut end = 0;
     let mut over = false;
+    // Counted, since no measure is to be had of bytes that are still to come, and main may not wait for ever.
     for _ in 0..u64::MAX {
-        let r = feed(
+        let fed = feed(
             seat, &mut input, start, end, over, &mut out, &mut q, &mut text,
         );
-        seat = r.seat;
-        start = r.start;
-        end = r.end;
-        let wrote = r.wrote;
-        rt.write_all(&text[..wrote])?;
-        let next = r.next;
-        match next {
+        rt.write_all(&text[..fed.wrote])?;
+        (seat, start, end) = (fed.seat, fed.start, fed.end);
+        match fed.next {
             Next::Again => {}
-            Next::Stop => {
-                return Ok(());
-            }
+            Next::Stop => return Ok(()),
             Next::Read => {
                 let got = read_more(&mut stdin, &mut input, end)?;
                 end += got;
