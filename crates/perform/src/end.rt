@@ -107,7 +107,7 @@ pub fn up_flag() -> Flags
 }
 
 // An end and an answer, with no report and nothing given out.
-pub fn quietly(end: End, answer: Answer) -> Effect
+pub(crate) fn quietly(end: End, answer: Answer) -> Effect
     ensures { result ≡ quietly end answer }
 {
     Effect {
