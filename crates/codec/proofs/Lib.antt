@@ -1,4 +1,4 @@
 -- The laws that the functions here are proved with.
 
--- numbers byte by byte, at places counted from the first
-pub mod Places
+-- numbers of any width, at any place
+pub mod Numbers

@@ -1,4 +1,5 @@
-// The kinds of message, both ways. No other code has the number of a kind.
+// The kinds of message, both ways. No other code has the number of a kind. Functions, since an impl of From would
+// have to stand in `wire`, which holds types alone.
 ghost use Rattle.std.specs.Prelude.{◌≡◌};
 ghost use Rattle.wire.specs.Message.{kind_of, shape_of};
 
@@ -12,13 +13,9 @@ pub fn kind_of(body: Body) -> u8
         Body::OffsetStart => 1,
         Body::OffsetAnsw1 => 2,
         Body::OffsetAnsw2 => 3,
-        Body::OffsetEst {
-            minimum: _,
-            maximum: _,
-        } => 4,
+        Body::OffsetEst { .. } => 4,
         Body::OffsetEnd => 5,
-        Body::LifeSign => 6,
-        Body::TrainData => 6,
+        Body::LifeSign | Body::TrainData => 6,
     }
 }
 

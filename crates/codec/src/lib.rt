@@ -5,7 +5,6 @@
 // `number` reads and writes numbers at any place of any bytes. Nothing here keeps a byte, and no call fails.
 #![tactic(auto)]
 
-mod field;
 pub mod kind;
 pub mod number;
 pub mod reading;

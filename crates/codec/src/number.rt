@@ -1,103 +1,98 @@
-// Big-endian numbers in a list of bytes: read at a place, written at a place, whatever the place. What lies
-// past the end reads as 0, and nothing is written there.
-ghost use Rattle.std.specs.Prelude.{◌≡◌, ◌+◌, ◌-◌, ◌<◌, length, get_or, set};
+// Big-endian numbers of any width in a list of bytes: read at a place, written at a place, whatever the place.
+// What lies past the end reads as 0, and nothing is written there.
+//
+// Where the length of the bytes is known, as behind the test for a message's room, the compiler leaves out the
+// test here, and makes one load and a byte swap of a read, a byte swap and one store of a write.
+ghost use Rattle.std.specs.Prelude.{◌≡◌, ℕ, ◌≤◌, drop};
+ghost use Rattle.std.proofs.Common.{rules};
 ghost use Rattle.std.proofs.lemmas.List.Edits.{sets};
 ghost use Rattle.wire.specs.Bytes.{bytes_of, number_at};
 
-use crate::field::{field_u32, set_u32, wide};
+// A number that N bytes write, the highest first.
+pub trait Number<const N: usize>: Copy {
+    // The number as clauses see it.
+    ghost value: { Self → ℕ };
 
-// How many bytes there are from a place on.
-fn bytes_from(s: &[u8], at: usize) -> usize
-    ensures { result ≡ length s.now - at }
-{
-    if s.len() <= at {
-        return 0;
+    fn from_bytes(bytes: &[u8; N]) -> Self
+        ensures { value result ≡ number_at N bytes.now 0 };
+
+    fn to_bytes(self) -> [u8; N]
+        ensures { result ≡ bytes_of N (value self) };
+
+    // An array of N bytes asks for a bound on N.
+    ghost few: { N ≤ 8 };
+}
+
+// One impl for each width, since a macro can write no ghost member.
+impl Number<1> for u8 {
+    ghost value = { λ x. x };
+
+    ghost few = { Prim.search rules };
+
+    fn from_bytes(bytes: &[u8; 1]) -> u8 {
+        u8::from_be_bytes(*bytes)
     }
-    s.len() - at
-}
 
-// The byte that stands k places behind `at`.
-fn byte_past(s: &[u8], at: usize, k: usize) -> u32
-    ensures { (result ≡ get_or s.now (at + k) 0) × (result < 256) }
-{
-    if bytes_from(s, at) <= k {
-        return 0;
-    }
-    let place = at + k;
-    wide(s[place])
-}
-
-// A byte stored k places behind `at`.
-fn store_past(s: &mut [u8], at: usize, k: usize, x: u8)
-    ensures { s.new ≡ set s.old (at + k) x }
-{
-    if bytes_from(s, at) <= k {
-        return;
-    }
-    let place = at + k;
-    s[place] = x;
-}
-
-// The byte at a place.
-pub fn read_u8(s: &[u8], at: usize) -> u8
-    ensures { result ≡ get_or s.now at 0 }
-{
-    if s.len() <= at {
-        return 0;
-    }
-    s[at]
-}
-
-// The number that the two bytes at a place write.
-pub fn read_u16(s: &[u8], at: usize) -> u16
-    ensures { result ≡ number_at 2 s.now at }
-{
-    let high = byte_past(s, at, 0);
-    let low = byte_past(s, at, 1);
-    (high * 256 + low) as u16
-}
-
-// The number that the four bytes at a place write. Where all are there, one test does for them; where
-// the end cuts them, the last is missing.
-pub fn read_u32(s: &[u8], at: usize) -> u32
-    ensures { result ≡ number_at 4 s.now at }
-{
-    if 4 <= bytes_from(s, at) {
-        return field_u32(s, at);
-    }
-    let a = byte_past(s, at, 0);
-    let b = byte_past(s, at, 1);
-    let c = byte_past(s, at, 2);
-    a * 16777216 + b * 65536 + c * 256
-}
-
-// One byte stored at a place.
-pub fn write_u8(s: &mut [u8], at: usize, x: u8)
-    ensures { s.new ≡ set s.old at x }
-{
-    if at < s.len() {
-        s[at] = x;
+    fn to_bytes(self) -> [u8; 1] {
+        self.to_be_bytes()
     }
 }
 
-// The two bytes of a number stored at a place.
-pub fn write_u16(s: &mut [u8], at: usize, x: u16)
-    ensures { s.new ≡ sets s.old at (bytes_of 2 x) }
-{
-    store_past(s, at, 0, (x / 256 % 256) as u8);
-    store_past(s, at, 1, (x % 256) as u8);
+impl Number<2> for u16 {
+    ghost value = { λ x. x };
+
+    ghost few = { Prim.search rules };
+
+    fn from_bytes(bytes: &[u8; 2]) -> u16 {
+        u16::from_be_bytes(*bytes)
+    }
+
+    fn to_bytes(self) -> [u8; 2] {
+        self.to_be_bytes()
+    }
 }
 
-// The four bytes of a number stored at a place. Where all have room, one test does for them; where the end
-// cuts them, the last is left out.
-pub fn write_u32(s: &mut [u8], at: usize, x: u32)
-    ensures { s.new ≡ sets s.old at (bytes_of 4 x) }
-{
-    if 4 <= bytes_from(s, at) {
-        set_u32(s, at, x);
-        return;
+impl Number<4> for u32 {
+    ghost value = { λ x. x };
+
+    ghost few = { Prim.search rules };
+
+    fn from_bytes(bytes: &[u8; 4]) -> u32 {
+        u32::from_be_bytes(*bytes)
     }
-    store_past(s, at, 0, (x / 16777216 % 256) as u8);
-    store_past(s, at, 1, (x / 65536 % 256) as u8);
-    store_past(s, at, 2, (x / 256 % 256) as u8);
+
+    fn to_bytes(self) -> [u8; 4] {
+        self.to_be_bytes()
+    }
+}
+
+// The bytes from a place on, none where it lies past the end.
+pub(crate) fn bytes_from(s: &[u8], at: usize) -> &[u8]
+    ensures { result.now ≡ drop at s.now }
+{
+    s.get(at..).unwrap_or(&[])
+}
+
+// The number at a place, where what lies past the end reads as 0.
+pub fn read<T: Number<N>, const N: usize>(s: &[u8], at: usize) -> T
+    ensures { T.value result ≡ number_at N s.now at }
+{
+    let rest = bytes_from(s, at);
+    if let Some(bytes) = rest.first_chunk() {
+        return T::from_bytes(bytes);
+    }
+    let mut bytes = [0; N];
+    bytes[..rest.len()].copy_from_slice(rest);
+    T::from_bytes(&bytes)
+}
+
+// A number stored at a place, where nothing is written past the end.
+pub fn write<T: Number<N>, const N: usize>(s: &mut [u8], at: usize, x: T)
+    ensures { s.new ≡ sets s.old at (bytes_of N (T.value x)) }
+{
+    match s.len().checked_sub(at) {
+        Some(room) if N <= room => s[at..at + N].copy_from_slice(&x.to_bytes()),
+        Some(room) => s[at..].copy_from_slice(&x.to_bytes()[..room]),
+        None => {}
+    }
 }

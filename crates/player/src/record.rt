@@ -5,7 +5,7 @@ ghost use Rattle.script.specs.Record.{settings_in, make_in, plain_in, lengthy_in
 ghost use Rattle.player.specs.Kinds.{form_as};
 
 use crate::part::{first, past};
-use codec::number::{read_u8, read_u16, read_u32};
+use codec::number::read;
 use judge::clock::Reading;
 use rules::act::Event;
 use rules::settings::Settings;
@@ -93,7 +93,7 @@ fn read_plain(s: &[u8], event: Event) -> Record
 {
     Record::Happen {
         event,
-        at: Reading(read_u32(s, 1)),
+        at: Reading(read(s, 1)),
         given: Span { from: 0, count: 0 },
     }
 }
@@ -101,13 +101,13 @@ fn read_plain(s: &[u8], event: Event) -> Record
 fn read_lengthy(s: &[u8], event: Event, field: u8) -> Option<Record>
     ensures { result ≡ lengthy_in event 1 field s.now }
 {
-    let count = read_u8(s, 5);
+    let count: u8 = read(s, 5);
     if count > field {
         return None;
     }
     Some(Record::Happen {
         event,
-        at: Reading(read_u32(s, 1)),
+        at: Reading(read(s, 1)),
         given: Span {
             from: 6,
             count: usize::from(count),
@@ -118,14 +118,14 @@ fn read_lengthy(s: &[u8], event: Event, field: u8) -> Option<Record>
 fn read_make(s: &[u8]) -> Option<Record>
     ensures { result ≡ make_in s.now }
 {
-    let role = match read_u8(s, 1) {
+    let role = match read::<u8, 1>(s, 1) {
         0 => Role::Initiator,
         1 => Role::Called,
         _ => return None,
     };
     Some(Record::Make {
         role,
-        at: Reading(read_u32(s, 2)),
+        at: Reading(read(s, 2)),
         settings: read_settings(s),
     })
 }
@@ -134,14 +134,14 @@ fn read_settings(s: &[u8]) -> Settings
     ensures { result ≡ settings_in s.now }
 {
     Settings {
-        age: read_u32(s, 6),
-        spread: read_u32(s, 10),
-        silence: read_u32(s, 17),
-        life_sign: read_u32(s, 21),
-        wait: read_u32(s, 25),
-        retry: read_u32(s, 29),
-        jump: read_u16(s, 14),
-        errors: read_u8(s, 16),
+        age: read(s, 6),
+        spread: read(s, 10),
+        silence: read(s, 17),
+        life_sign: read(s, 21),
+        wait: read(s, 25),
+        retry: read(s, 29),
+        jump: read(s, 14),
+        errors: read(s, 16),
     }
 }
 

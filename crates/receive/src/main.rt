@@ -7,7 +7,7 @@
 mod input;
 mod timed;
 
-use codec::number::{read_u32, write_u16};
+use codec::number::{read, write};
 use judge::clock::Reading;
 use link::make::make;
 use link::step::step;
@@ -22,7 +22,7 @@ fn main(rt: HostRuntime) -> io::Result<()> {
     let mut queue = [0u8; BYTES];
     let mut input = [0u8; 85];
     input::fill(&mut rt.stdin(), &mut input)?;
-    let at = Reading(read_u32(&input, 81));
+    let at = Reading(read(&input, 81));
     let Ok(mut end) = make(Role::Called, at, timed::SETTINGS) else {
         return Ok(());
     };
@@ -30,7 +30,7 @@ fn main(rt: HostRuntime) -> io::Result<()> {
     for turn in 0..EVENTS {
         // The bytes are lent twice: lent once, as `&mut input[span]`, they take 194 instructions a message, and so 188.
         let span = timed::span_of(turn);
-        write_u16(&mut input, span.start + 1, timed::number_at(turn));
+        write(&mut input, span.start + 1, timed::number_at(turn));
         let outcome = step(
             end,
             timed::event_at(turn),

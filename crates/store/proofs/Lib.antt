@@ -1,0 +1,4 @@
+-- The laws that the functions here are proved with.
+
+-- the slots of a queue, one after the other
+pub mod Chunks
