@@ -1,7 +1,4 @@
 // The end afterwards, and what is reported.
-//
-// Here and in the files above it an end and the reading of the event go side by side, as in the law: joined, each
-// contract would have to take them apart again.
 ghost use Rattle.std.specs.Prelude.{◌≡◌};
 ghost use Rattle.queue.specs.Ring.{empty_ring};
 ghost use Rattle.rules.specs.Make.{asks_at_once};

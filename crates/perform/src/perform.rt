@@ -11,16 +11,18 @@ use rules::act::Act;
 use rules::effect::Effect;
 use rules::state::End;
 
-#[tactic(auto, unfolding(rules::specs::Perform::performed))]
+#[tactic(auto, using(crate::proofs::Noted::moved_noted, crate::proofs::Noted::started_noted, crate::proofs::Noted::heard_noted, crate::proofs::Noted::said_noted), unfolding(rules::specs::Perform::performed))]
 pub fn perform(e: End, act: Act, at: Reading) -> Effect
     ensures { result ≡ performed e act at }
 {
+    // All but Stay keep the new reading. So the rooms are given the end that holds it, and `e.reading` is now.
+    let noted = noted_end(e, at);
     match act {
         Act::Stay(answer) => quietly(e, answer),
-        Act::Note(answer) => quietly(noted_end(e, at), answer),
-        Act::Move(m) => moved(e, m, at),
-        Act::Start(x) => started(e, x, at),
-        Act::Hear(v) => heard(e, v, at),
-        Act::Say(s) => said(e, s, at),
+        Act::Note(answer) => quietly(noted, answer),
+        Act::Move(m) => moved(noted, m),
+        Act::Start(x) => started(noted, x),
+        Act::Hear(v) => heard(noted, v),
+        Act::Say(s) => said(noted, s),
     }
 }

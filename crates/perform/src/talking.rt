@@ -5,10 +5,9 @@ ghost use Rattle.rules.specs.Talking.{heard as heard_by, said as said_by};
 ghost use Rattle.rules.specs.declared.act.Verdict.TheVariants.{Deliver, Report};
 ghost use Rattle.rules.specs.declared.act.Speech.TheVariants.{Quiet, Beat, Speak, Drain, Hold};
 
-use crate::end::{error_flag, moved_end, quietly};
+use crate::end::{error_flag, quietly};
 use crate::exchanging::message;
 use crate::line::{accepted, delivered, sent, spoken, with_busy, with_failures};
-use judge::clock::Reading;
 use queue::Ring;
 use rules::act::{Delivery, Speech, Verdict};
 use rules::answer::Answer;
@@ -17,23 +16,23 @@ use rules::state::End;
 use store::{waiting, without_oldest};
 use wire::message::Body;
 
-pub fn heard(e: End, v: Verdict, at: Reading) -> Effect
-    ensures { result ≡ heard_by e v at }
+pub fn heard(e: End, v: Verdict) -> Effect
+    ensures { result ≡ heard_by e v e.reading }
 {
     match v {
-        Verdict::Deliver(d) => deliver(e, d, at),
-        Verdict::Report { answer, failures } => report(e, answer, failures, at),
+        Verdict::Deliver(d) => deliver(e, d),
+        Verdict::Report { answer, failures } => report(e, answer, failures),
     }
 }
 
-// Train data go to the user, life signs to nobody. That messages are missing before it is reported.
-fn deliver(e: End, d: Delivery, at: Reading) -> Effect
-    ensures { result ≡ heard_by e (Deliver d) at }
+// Train data go to the user, life signs to nobody. Where messages are missing before it, that is reported.
+fn deliver(e: End, d: Delivery) -> Effect
+    ensures { result ≡ heard_by e (Deliver d) e.reading }
 {
     let gap = d.skipped != 0;
-    let line = delivered(accepted(e.line, d.header, at), at);
+    let line = delivered(accepted(e.line, d.header, e.reading), e.reading);
     Effect {
-        end: moved_end(e, at, e.life, line, e.ring),
+        end: End { line, ..e },
         placing: if d.train {
             Placing::Deliver
         } else {
@@ -44,68 +43,73 @@ fn deliver(e: End, d: Delivery, at: Reading) -> Effect
     }
 }
 
-fn report(e: End, answer: Answer, failures: u8, at: Reading) -> Effect
-    ensures { result ≡ heard_by e (Report answer failures) at }
+fn report(e: End, answer: Answer, failures: u8) -> Effect
+    ensures { result ≡ heard_by e (Report answer failures) e.reading }
 {
-    let end = moved_end(e, at, e.life, with_failures(e.line, failures), e.ring);
+    let line = with_failures(e.line, failures);
     Effect {
         flags: error_flag(true),
-        ..quietly(end, answer)
+        ..quietly(End { line, ..e }, answer)
     }
 }
 
-pub fn said(e: End, s: Speech, at: Reading) -> Effect
-    ensures { result ≡ said_by e s at }
+pub fn said(e: End, s: Speech) -> Effect
+    ensures { result ≡ said_by e s e.reading }
 {
     match s {
-        Speech::Quiet => keep_quiet(e, at),
-        Speech::Beat => beat(e, at),
-        Speech::Speak => speak(e, at),
-        Speech::Drain => drain(e, at),
-        Speech::Hold => hold(e, at),
+        Speech::Quiet => keep_quiet(e),
+        Speech::Beat => beat(e),
+        Speech::Speak => speak(e),
+        Speech::Drain => drain(e),
+        Speech::Hold => hold(e),
     }
 }
 
 // A kind 6 goes out.
-fn say(e: End, at: Reading, ring: Ring, placing: Placing) -> Effect
-    ensures { result ≡ speaking e at ring placing }
+fn say(e: End, placing: Placing) -> Effect
+    ensures { result ≡ speaking e e.reading e.ring placing }
 {
-    let end = moved_end(e, at, e.life, sent(spoken(e.line, at)), ring);
+    let end = End {
+        line: sent(spoken(e.line, e.reading)),
+        ..e
+    };
     Effect {
         placing,
         ..quietly(end, Answer::Handled)
     }
 }
 
-fn keep_quiet(e: End, at: Reading) -> Effect
-    ensures { result ≡ said_by e Quiet at }
+fn keep_quiet(e: End) -> Effect
+    ensures { result ≡ said_by e Quiet e.reading }
 {
-    let end = moved_end(e, at, e.life, with_busy(e.line, false), e.ring);
-    quietly(end, Answer::Handled)
+    let line = with_busy(e.line, false);
+    quietly(End { line, ..e }, Answer::Handled)
 }
 
-fn beat(e: End, at: Reading) -> Effect
-    ensures { result ≡ said_by e Beat at }
+fn beat(e: End) -> Effect
+    ensures { result ≡ said_by e Beat e.reading }
 {
-    let m = message(e.line, at, Body::LifeSign);
-    say(e, at, e.ring, Placing::Send(m))
+    say(e, Placing::Send(message(e, Body::LifeSign)))
 }
 
-fn speak(e: End, at: Reading) -> Effect
-    ensures { result ≡ said_by e Speak at }
+fn speak(e: End) -> Effect
+    ensures { result ≡ said_by e Speak e.reading }
 {
-    let m = message(e.line, at, Body::TrainData);
-    say(e, at, e.ring, Placing::SendUser(m))
+    say(e, Placing::SendUser(message(e, Body::TrainData)))
 }
 
-fn drain(e: End, at: Reading) -> Effect
-    ensures { result ≡ said_by e Drain at }
+fn drain(e: End) -> Effect
+    ensures { result ≡ said_by e Drain e.reading }
 {
-    let oldest = Placing::SendOldest {
-        message: message(e.line, at, Body::TrainData),
+    let placing = Placing::SendOldest {
+        message: message(e, Body::TrainData),
         ring: e.ring,
     };
-    say(e, at, without_oldest(e.ring), oldest)
+    let end = End {
+        ring: without_oldest(e.ring),
+        ..e
+    };
+    say(end, placing)
 }
 
 // The ring with one more at its end.
@@ -118,10 +122,13 @@ fn longer_of(ring: Ring) -> Ring
     }
 }
 
-fn hold(e: End, at: Reading) -> Effect
-    ensures { result ≡ said_by e Hold at }
+fn hold(e: End) -> Effect
+    ensures { result ≡ said_by e Hold e.reading }
 {
-    let end = moved_end(e, at, e.life, e.line, longer_of(e.ring));
+    let end = End {
+        ring: longer_of(e.ring),
+        ..e
+    };
     Effect {
         placing: Placing::Store(e.ring),
         ..quietly(end, Answer::Handled)

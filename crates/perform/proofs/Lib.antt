@@ -1,0 +1,2 @@
+-- Taking the reading first, or with what follows, comes to the same.
+pub mod Noted
