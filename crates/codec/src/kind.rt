@@ -1,5 +1,5 @@
-// The kinds of message, both ways. No other code has the number of a kind. Functions, since an impl of From would
-// have to stand in `wire`, which holds types alone.
+// The kinds of message, both ways. No other code has the number of a kind.
+// No From or TryFrom: it would stand in `wire`, which holds types alone; nor a discriminant, since one body has fields.
 ghost use Rattle.std.specs.Prelude.{◌≡◌};
 ghost use Rattle.wire.specs.Message.{kind_of, shape_of};
 

@@ -9,6 +9,7 @@ use wire::message::{Body, HEADER, LONGEST, Message};
 
 // Writes a message, and answers how many bytes it has: none where the output has no room for it, or
 // where it is one of train data and these are none or too many. Other messages pass over `train`.
+// A count and no Option: the law's `written_count` (wire/specs/Writing.antt) counts 0 where nothing is written.
 #[tactic(auto, unfolding(wire::specs::Message::encode))]
 pub fn write_message(out: &mut [u8], m: Message, train: &[u8]) -> usize
     ensures value { result ≡ written_count m train.now out.old }

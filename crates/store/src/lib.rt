@@ -37,12 +37,12 @@ pub fn oldest(q: &[u8; BYTES], r: Ring) -> &[u8]
 pub fn without_oldest(r: Ring) -> Ring
     ensures { result ≡ without_oldest r }
 {
-    match waiting(r) {
-        0 => r,
-        count => Ring {
-            head: place(r, 1) as u8,
-            count: count - 1,
-        },
+    let Some(count) = waiting(r).checked_sub(1) else {
+        return r;
+    };
+    Ring {
+        head: place(r, 1) as u8,
+        count,
     }
 }
 
