@@ -11,7 +11,7 @@ use rules::act::Act;
 use rules::effect::Effect;
 use rules::state::End;
 
-#[tactic(auto, using(crate::proofs::Noted::moved_noted, crate::proofs::Noted::started_noted, crate::proofs::Noted::heard_noted, crate::proofs::Noted::said_noted), unfolding(rules::specs::Perform::performed))]
+#[tactic(auto, unfolding(rules::specs::Perform::performed))]
 pub fn perform(e: End, act: Act, at: Reading) -> Effect
     ensures { result ≡ performed e act at }
 {
