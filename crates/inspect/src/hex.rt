@@ -8,7 +8,8 @@ use std::marker::Model;
 // The most bytes of a line.
 pub const ROOM: usize = 256;
 
-// How much of a line has been read.
+// How much of a line has been read. A bad line may have a note behind it, and what came before either is kept: both are flags
+// of their own, and no Result.
 #[derive(Default, Drop)]
 pub struct Line {
     // The whole bytes so far.

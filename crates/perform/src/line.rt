@@ -32,7 +32,7 @@ pub fn new_line(at: Reading) -> Line
     }
 }
 
-// The pair that was measured.
+// The pair that was measured. This and the next three are one function each, since a field is no parameter.
 pub fn with_offsets(line: Line, offsets: Offsets) -> Line
     ensures { result ≡ with_offsets line offsets }
 {

@@ -11,7 +11,7 @@ use rules::effect::ROOM;
 use script::reply::Next;
 use std::io;
 
-// How many bytes of the script, and how many of the text, are held at once.
+// How many bytes of the script, and how many of the text, are held at once. Arrays, since memory is fixed here.
 const LARGE: usize = 65536;
 
 fn main(rt: HostRuntime) -> io::Result<()> {
