@@ -67,7 +67,7 @@ impl Number<4> for u32 {
 }
 
 // The bytes from a place on, none where it lies past the end.
-pub(crate) fn bytes_from(s: &[u8], at: usize) -> &[u8]
+pub fn bytes_from(s: &[u8], at: usize) -> &[u8]
     ensures { result.now ≡ drop at s.now }
 {
     s.get(at..).unwrap_or(&[])

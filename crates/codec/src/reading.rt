@@ -5,7 +5,7 @@ ghost use Rattle.wire.specs.Message.{parse, header_in, train_in};
 use crate::kind::shape_of;
 use crate::number::{bytes_from, read};
 use judge::clock::{Offset, Reading, Stamps};
-use wire::message::{Body, HEADER, Header, LONGEST, Message, Shape};
+use wire::message::{Body, HEADER, Header, LIFE_SIGN, LONGEST, Message, Shape, TRAIN_DATA};
 
 // What bytes say: a message, or none where they are malformed.
 pub fn read_message(s: &[u8]) -> Option<Message>
@@ -50,8 +50,8 @@ fn read_body(s: &[u8]) -> Option<Body>
             minimum: Offset(read(rest, 0)),
             maximum: Offset(read(rest, 4)),
         }),
-        (Shape::Payload, [2]) => Some(Body::LifeSign),
-        (Shape::Payload, [3, _, ..]) if rest.len() <= 1 + LONGEST => Some(Body::TrainData),
+        (Shape::Payload, [LIFE_SIGN]) => Some(Body::LifeSign),
+        (Shape::Payload, [TRAIN_DATA, _, ..]) if rest.len() <= 1 + LONGEST => Some(Body::TrainData),
         _ => None,
     }
 }

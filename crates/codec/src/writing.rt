@@ -5,11 +5,11 @@ ghost use Rattle.wire.specs.Writing.{over, placed, placed_count, written, writte
 
 use crate::kind::kind_of;
 use crate::number::{Number, write};
-use wire::message::{Body, HEADER, LONGEST, Message};
+use wire::message::{Body, HEADER, LIFE_SIGN, LONGEST, Message, TRAIN_DATA};
 
 // Writes a message, and answers how many bytes it has: none where the output has no room for it, or
 // where it is one of train data and these are none or too many. Other messages pass over `train`.
-// A count and no Option: the law's `written_count` (wire/specs/Writing.antt) counts 0 where nothing is written.
+// A count and no Option: `Front::Message` counts, and `link::place`, which has proved that there is room, would only unwrap.
 #[tactic(auto, unfolding(wire::specs::Message::encode))]
 pub fn write_message(out: &mut [u8], m: Message, train: &[u8]) -> usize
     ensures value { result ≡ written_count m train.now out.old }
@@ -19,8 +19,13 @@ pub fn write_message(out: &mut [u8], m: Message, train: &[u8]) -> usize
         Body::OffsetEst { minimum, maximum } => {
             place(out, m, &minimum.0.to_bytes(), &maximum.0.to_bytes())
         }
-        Body::LifeSign => place(out, m, &[2], &[]),
-        Body::TrainData if (1..=LONGEST).contains(&train.len()) => place(out, m, &[3], train),
+        Body::LifeSign => place(out, m, &[LIFE_SIGN], &[]),
+        Body::TrainData if (1..=LONGEST).contains(&train.len()) => place(
+            out,
+            m,
+            &[TRAIN_DATA],
+            train,
+        ),
         Body::TrainData => 0,
         Body::OffsetStart | Body::OffsetAnsw1 | Body::OffsetAnsw2 | Body::OffsetEnd => {
             place(out, m, &[], &[])

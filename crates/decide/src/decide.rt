@@ -1,4 +1,4 @@
-// What an event comes to. The order of the tests is the order of the answers.
+// What an event comes to. The order of the tests is the order of the answers. End and reading go apart: see lib.rt.
 ghost use Rattle.std.specs.Prelude.{◌≡◌};
 ghost use Rattle.rules.specs.Decide.{on_event, decide_of};
 

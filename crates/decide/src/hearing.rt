@@ -1,4 +1,4 @@
-// What a message comes to.
+// What a message comes to. End and reading go apart: see lib.rt.
 ghost use Rattle.std.specs.Prelude.{◌≡◌};
 ghost use Rattle.wire.specs.Message.{parse};
 ghost use Rattle.rules.specs.Hearing.{on_failure, delivery_of, on_age, on_awaited, on_up_message, on_message};

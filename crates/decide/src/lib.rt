@@ -1,6 +1,8 @@
 // What an event comes to: tests alone, in the order of the answers.
 //
-// An end, a reading and a header go apart, as the law's functions take them: a struct of them would be taken apart in each clause.
+// An end and a reading go apart in all of this, as in the law: the reading is judged against what the end holds, so the end
+// cannot have taken it yet, and a struct of both would be taken apart in each clause. Functions and no methods, since
+// `rules` holds types alone.
 #![tactic(auto)]
 
 pub mod decide;

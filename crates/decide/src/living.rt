@@ -1,5 +1,5 @@
 // The life of a connection: how long a state may last, and what indications, confirms and an Idle end's
-// ticks come to.
+// ticks come to. End and reading go apart: see lib.rt.
 ghost use Rattle.std.specs.Prelude.{◌≡◌, false, cond, eqb};
 ghost use Rattle.rules.specs.State.{phase_of, awaited_by};
 ghost use Rattle.rules.specs.Living.{overdue, on_connect, on_disconnect, on_confirm, may_ask, on_idle_tick};

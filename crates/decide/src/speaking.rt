@@ -1,4 +1,4 @@
-// What a tick and the user's data come to.
+// What a tick and the user's data come to. End and reading go apart: see lib.rt.
 ghost use Rattle.std.specs.Prelude.{◌≡◌};
 ghost use Rattle.rules.specs.State.{phase_of};
 ghost use Rattle.rules.specs.Speaking.{life_sign_due, on_up_tick, on_up_data, on_tick, on_data};

@@ -1,4 +1,4 @@
-// What the messages of the clock start come to, once they are the next ones.
+// What the messages of the clock start come to, once they are the next ones. End and reading go apart: see lib.rt.
 ghost use Rattle.std.specs.Prelude.{◌≡◌, true, false};
 ghost use Rattle.rules.specs.Starting.{start_fails, measures, measurement_of, on_start, on_answer1, on_answer2, on_estimate, on_end};
 

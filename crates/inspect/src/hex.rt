@@ -8,8 +8,7 @@ use std::marker::Model;
 // The most bytes of a line.
 pub const ROOM: usize = 256;
 
-// How much of a line has been read. A bad line may have a note behind it, and what came before either is kept: both are flags
-// of their own, and no Result.
+// How much of a line has been read. Flags and no Result: `Hex.fed` says how a bad line goes on, and it may have a note too.
 #[derive(Default, Drop)]
 pub struct Line {
     // The whole bytes so far.
@@ -50,6 +49,7 @@ impl Line {
         match (self.high, nibble(character)) {
             (_, None) => self.bad = true,
             (None, low) => self.high = low,
+            // Modulo 16, since the type takes any number for a first digit.
             (Some(high), Some(low)) => match self.bytes.try_push(high % 16 * 16 + low) {
                 Ok(()) => self.high = None,
                 Err(_) => self.bad = true,

@@ -16,14 +16,15 @@ fn main(rt: HostRuntime) -> io::Result<()> {
     let mut stdin = rt.stdin();
     let mut input = [0u8; 65536];
     let mut line = Line::default();
-    // The turns are counted, since a loop over a live input has no measure; a `BufReader` would do without, and needs the heap.
+    // The turns are counted, since a loop over a live input has no measure; a `BufReader` would do without, and no program here
+    // rests on the heap.
     for _ in 0..u64::MAX {
         let got = stdin.read(&mut input)?;
         if got == 0 {
             return Ok(());
         }
-        for character in &input[..got] {
-            match *character {
+        for &character in &input[..got] {
+            match character {
                 b'\n' => {
                     show::show(&rt, &line)?;
                     line = Line::default();

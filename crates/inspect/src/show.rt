@@ -11,7 +11,7 @@ use codec::kind::kind_of;
 use codec::reading::{read_message, train_data};
 use std::fmt::Display;
 use std::{fmt, io};
-use wire::message::{Body, Message};
+use wire::message::{Body, LIFE_SIGN, Message, TRAIN_DATA};
 
 // The numbers of a message, as they are shown.
 #[derive(Drop)]
@@ -33,8 +33,8 @@ impl From<Message> for Row {
                 numbers.push(minimum.0);
                 numbers.push(maximum.0);
             }
-            Body::LifeSign => numbers.push(2),
-            Body::TrainData => numbers.push(3),
+            Body::LifeSign => numbers.push(u32::from(LIFE_SIGN)),
+            Body::TrainData => numbers.push(u32::from(TRAIN_DATA)),
             Body::OffsetStart | Body::OffsetAnsw1 | Body::OffsetAnsw2 | Body::OffsetEnd => {}
         }
         Row(numbers)

@@ -1,5 +1,5 @@
--- The laws of the one difference, over its width.
-use Rattle.std.proofs.Common.{◌≡◌, ℕ, ◌+◌, ◌-◌, ◌*◌, ◌/◌, ◌%◌, ◌^◌, ◌<◌, sym, ap, ◌∙◌, mod-lt, mod-eq_of_lt, div-add-mod', arith, pow_pos}
+-- The laws of the one difference, over its width, and what wrapping subtraction has to do with it.
+use Rattle.std.proofs.Common.{◌≡◌, ℕ, ◌+◌, ◌-◌, ◌*◌, ◌/◌, ◌%◌, ◌^◌, ◌<◌, sym, ap, ◌∙◌, mod-lt, mod-eq_of_lt, add_comm, div-add-mod', arith, pow_pos}
 use native.Mathlib.Nat.{mod-mod, mod-add-mod, add-mod-mod, add-mod_right, add-mul-mod_self_right}
 use Rattle.judge.specs.Difference.{diff}
 use Rattle.judge.specs.Claims.{DifferenceIs, DifferenceFits, DifferenceAdds, DifferenceShifts}
@@ -42,3 +42,9 @@ diff_shifts w a b k =
     let e : (b + k) + n ≡ (b + n) + k = omega arith in
     diff_is w n (a + k) (b + k) (diff_fits w a b)
     (ap (λ (x : ℕ). x % P) e ∙ sym (mod-add-mod (b + n) P k) ∙ ap (λ (x : ℕ). (x + k) % P) (diff_adds w a b) ∙ mod-add-mod a P k)
+
+-- what wrapping subtraction ensures of its result
+pub wraps : (w r a b : ℕ) → r < 2 ^ w → (r + b) % 2 ^ w ≡ a → r ≡ diff w a b
+wraps w r a b small e =
+    sym (diff_is w r a b small
+    (ap (λ (k : ℕ). k % 2 ^ w) (add_comm b r) ∙ sym (mod-mod (r + b) (2 ^ w)) ∙ ap (λ (k : ℕ). k % 2 ^ w) e))

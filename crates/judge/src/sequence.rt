@@ -1,4 +1,4 @@
-// Sequence numbers, and what a received one says of the messages before it.
+// Sequence numbers, and what a received one says of the messages before it. Free functions, since a number is a plain u16.
 // Every difference here is the one of the specs, which the proofs open.
 #![tactic(auto, unfolding(crate::specs::Difference::diff))]
 

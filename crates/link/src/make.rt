@@ -11,7 +11,7 @@ use rules::answer::Answer;
 use rules::settings::Settings;
 use rules::state::{Asking, End, Life, Role};
 
-// A fresh end, or answer 1 where a setting is out of range.
+// A fresh end, or answer 1 where a setting is out of range. Role, reading and settings go apart, as `MakePromise` names them.
 pub fn make(role: Role, at: Reading, settings: Settings) -> Result<End, Answer>
     ensures { MakePromise role at settings result }
 {

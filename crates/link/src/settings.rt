@@ -1,4 +1,4 @@
-// Whether the numbers that the installer sets are in their ranges.
+// Whether the numbers that the installer sets are in their ranges. Functions and no methods, since `rules` holds types alone.
 ghost use Rattle.std.specs.Prelude.{◌≡◌};
 ghost use Rattle.rules.specs.Settings.{limits_in_range, times_in_range, in_range_of};
 

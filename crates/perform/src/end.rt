@@ -1,4 +1,5 @@
-// The end afterwards, and what is reported.
+// The end afterwards, and what is reported. Functions and no methods, since `rules` holds types alone. They are public, and take
+// end and reading apart, as the law's do; in the files above them an end has taken the reading.
 ghost use Rattle.std.specs.Prelude.{◌≡◌};
 ghost use Rattle.queue.specs.Ring.{empty_ring};
 ghost use Rattle.rules.specs.Make.{asks_at_once};
@@ -16,6 +17,7 @@ use rules::state::{Asking, End, Life, Line, Role};
 pub fn was_up(e: End) -> bool
     ensures { result ≡ was_up e }
 {
+    // A local: it is matched from one.
     let life = e.life;
     matches!(life, Life::Up)
 }

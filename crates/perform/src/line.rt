@@ -2,7 +2,8 @@
 //
 // A line is made anew and not stored into: a struct that is stored into is moved in pieces of eight bytes.
 //
-// Functions and no methods: an inherent impl has to stand in the crate of its type, and `rules` holds types alone.
+// Functions and no methods: an inherent impl has to stand in the crate of its type, and `rules` holds types alone. They take
+// the reading beside the line, since a line holds none.
 ghost use Rattle.std.specs.Prelude.{◌≡◌};
 ghost use Rattle.rules.specs.State.{blank_line, new_line};
 ghost use Rattle.rules.specs.Line.{with_offsets, with_began, with_failures, with_busy, accepted_line, posted_line, sent_line, risen_line, delivered_line, spoken_line, header_by};
@@ -32,7 +33,7 @@ pub fn new_line(at: Reading) -> Line
     }
 }
 
-// The pair that was measured. This and the next three are one function each, since a field is no parameter.
+// The pair that was measured. This and the next three are public, and so stay beside struct update.
 pub fn with_offsets(line: Line, offsets: Offsets) -> Line
     ensures { result ≡ with_offsets line offsets }
 {

@@ -42,18 +42,6 @@ leaves_then v w a b =
       puts = puts_then v w a.puts b.puts;
     }
 
-pub begins : (last : Bool) (p : Player) (s : List ℕ) → Going last p s p s
-begins last p s =
-    let all = played last (held_by p) s (room_of p.text.now) in
-    let none : all.used ≡ 0 + all.used = omega arith in
-    record {
-      used = 0;
-      text = [];
-      count = omega arith;
-      leaves = nothing_left p;
-      whole = λ i. record { held = all.held; text = all.text; used = none i; ended = all.ended };
-    }
-
 -- ---- one turn, by what was tested and what was replied
 
 module _ {last : Bool} {first now : Player} {s rest : List ℕ} (so : Going last first s now rest) {room : ℕ} (room_is : room ≡ room_of now.text.now)

@@ -1,4 +1,5 @@
-// What a program does between two reads, over the buffers that it lends.
+// What a program does between two reads, over the buffers that it lends. They and the two places go apart, as
+// `FeedPromise` names them.
 ghost use Rattle.std.specs.Prelude.{◌≡◌, ◌-◌, ◌≤◌, cond, eqb, length};
 ghost use Rattle.std.proofs.lemmas.List.Edits.{sets};
 ghost use Rattle.std.proofs.Math.Seq.{slice};
@@ -7,8 +8,9 @@ ghost use Rattle.script.specs.Promise.{FeedPromise};
 ghost use Rattle.script.specs.Reply.{held_as};
 ghost use Rattle.script.specs.declared.reply.Next.TheVariants.{Again, Read, Stop};
 
-use crate::part::{first, past};
+use crate::part::first;
 use crate::play::play;
+use codec::number::bytes_from;
 use queue::BYTES;
 use rules::effect::ROOM;
 use rules::state::End;
@@ -65,7 +67,7 @@ fn between(s: &[u8], start: usize, end: usize) -> &[u8]
     ensures value { result.now ≡ slice start end s.now }
     ensures in_bounds { length result.now ≤ end - start }
 {
-    past(first(s, end), start)
+    bytes_from(first(s, end), start)
 }
 
 // Moves these bytes to the front, and answers how many they are.

@@ -29,7 +29,6 @@ impl Text<'_> {
     }
 
     // The number of an answer, which has two digits at most.
-    #[tactic(auto, using(crate::proofs::Lines::number_small))]
     pub fn put_answer(&mut self, answer: Answer)
         requires { 2 ≤ room_of self.old }
         ensures puts { Puts self.old (decimal_of (number_of answer)) self.new }

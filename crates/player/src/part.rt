@@ -1,5 +1,5 @@
-// Parts of a slice, held to its length: whatever the number, there is one.
-ghost use Rattle.std.specs.Prelude.{◌≡◌, ◌≤◌, length, take, drop};
+// The front of a slice, held to its length: whatever the number, there is one.
+ghost use Rattle.std.specs.Prelude.{◌≡◌, ◌≤◌, length, take};
 
 // The first n bytes, or all where there are fewer.
 pub fn first(s: &[u8], n: usize) -> &[u8]
@@ -7,11 +7,4 @@ pub fn first(s: &[u8], n: usize) -> &[u8]
     ensures in_bounds { length result.now ≤ length s.now }
 {
     &s[..n.min(s.len())]
-}
-
-// What follows the first n bytes, or nothing where there are fewer.
-pub fn past(s: &[u8], n: usize) -> &[u8]
-    ensures { result.now ≡ drop n s.now }
-{
-    &s[n.min(s.len())..]
 }

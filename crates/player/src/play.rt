@@ -1,4 +1,4 @@
-// A script, or a piece of one, as far as the lent text has room.
+// A script, or a piece of one, as far as the lent text has room. What is lent to `play` goes apart, as `PlayPromise` names it.
 ghost use Rattle.std.specs.Prelude.{◌≡◌, ◌≤◌, length};
 ghost use Rattle.player.specs.Puts.{room_of};
 ghost use Rattle.player.specs.Replying.{PlaysPiece, held_by};

@@ -4,8 +4,8 @@ ghost use Rattle.script.specs.Forms.{form_of, size_in, record_bytes, record_in};
 ghost use Rattle.script.specs.Record.{settings_in, make_in, plain_in, lengthy_in, given_in};
 ghost use Rattle.player.specs.Kinds.{form_as};
 
-use crate::part::{first, past};
-use codec::number::read;
+use crate::part::first;
+use codec::number::{bytes_from, read};
 use judge::clock::Reading;
 use rules::act::Event;
 use rules::settings::Settings;
@@ -47,7 +47,7 @@ impl Kind {
     }
 }
 
-// The kind of the record that begins here.
+// The kind of the record that begins here. No TryFrom: there may be no byte, and an error would say no more than None.
 fn kind_in(s: &[u8]) -> Option<Kind>
     ensures { form_as result ≡ form_of (get_or s.now 0 0) }
 {
@@ -63,7 +63,7 @@ fn kind_in(s: &[u8]) -> Option<Kind>
     }
 }
 
-// The length of the record that begins here; 0 where none can, as the law's `Forms.size_in` has it.
+// The length of the record that begins here; 0 where none can, as the law's `Forms.size_in` has it and all callers take it.
 pub fn size_in(s: &[u8]) -> usize
     ensures { result ≡ size_in s.now }
 {
@@ -118,6 +118,7 @@ fn read_lengthy(s: &[u8], event: Event, field: u8) -> Option<Record>
 fn read_make(s: &[u8]) -> Option<Record>
     ensures { result ≡ make_in s.now }
 {
+    // Told here: a TryFrom would stand in `rules`, which holds types alone.
     let role = match read::<u8, 1>(s, 1) {
         0 => Role::Initiator,
         1 => Role::Called,
@@ -149,5 +150,5 @@ fn read_settings(s: &[u8]) -> Settings
 pub fn given_in(s: &[u8], part: Span) -> &[u8]
     ensures { result.now ≡ given_in s.now part }
 {
-    first(past(s, part.from), part.count)
+    first(bytes_from(s, part.from), part.count)
 }

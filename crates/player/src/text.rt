@@ -1,5 +1,6 @@
-// Bytes put into a lent text, one after the other. Numbers go digit by digit, since `write!` promises nothing of
-// the text where it answers an error, and no contract says that it answers none.
+// Bytes put into a lent text, one after the other. Numbers go digit by digit: `write!` promises nothing of the text where
+// it answers an error, no contract says that it answers none, and a char of `from_digit` would have to become a byte again.
+// A clause `room` says how much of the text a word of any length may take: each has a number of its own.
 ghost use Rattle.std.specs.Prelude.{◌≡◌, cond, [], ◌∷◌, ◌+◌, ◌*◌, ◌/◌, ◌%◌, ◌≤◌, ◌<◌, length};
 ghost use Rattle.script.specs.Words.{digit_of, hex_of, decimal_of};
 

@@ -28,7 +28,7 @@ fn main(rt: HostRuntime) -> io::Result<()> {
     };
     let mut delivered = 0;
     for turn in 0..EVENTS {
-        // The bytes are lent twice: lent once, as `&mut input[span]`, they take 194 instructions a message, and so 188.
+        // The bytes are lent twice: lent once, as `&mut input[span]`, a message takes 111 instructions, and so 94.
         let span = timed::span_of(turn);
         write(&mut input, span.start + 1, timed::number_at(turn));
         let outcome = step(

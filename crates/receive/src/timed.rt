@@ -30,7 +30,7 @@ pub fn event_at(turn: u32) -> Event
 }
 
 // Messages are numbered from 0, and the first comes in turn 1.
-// No `saturating_sub`: with it a message takes 198 instructions, and so 188.
+// No `saturating_sub`: with it a message takes 101 instructions, and so 94.
 pub fn number_at(turn: u32) -> u16
     ensures { result ≡ number_at_turn turn }
 {

@@ -43,8 +43,8 @@ pub struct Effect {
     pub answer: Answer,
 }
 
-// What stands at the front of the lent output, and how many bytes it has. Nothing is a third kind of front here:
-// an Option of the other two is no plainer.
+// What stands at the front of the lent output, and how many bytes it has: a count, since the output is the caller's.
+// Nothing is a third kind of front: an Option of the other two is no plainer.
 #[derive(Clone, Copy)]
 pub enum Front {
     Nothing,
@@ -52,7 +52,8 @@ pub enum Front {
     Datum(usize),
 }
 
-// What one event came to.
+// What one event came to. An effect says what is to be done with bytes, and this what came of it: the law has both
+// (`Step.result_of`).
 #[derive(Clone, Copy)]
 pub struct Outcome {
     pub end: End,

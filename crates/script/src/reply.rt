@@ -29,7 +29,7 @@ pub struct Played {
 }
 
 // What waited in the buffer of a program was played, as far as it went. Numbers and not slices, since what they
-// count is lent by the caller and the law says them (`Promise.Feeds`).
+// count is lent by the caller and the law says them (`Promise.Feeds`, as `Promise.Plays` and `Promise.Tells` those above).
 #[derive(Clone, Copy)]
 pub struct Fed {
     // The end that the script speaks of; none before a valid make.

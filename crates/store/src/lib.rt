@@ -2,6 +2,7 @@
 //
 // Any bytes and any numbers are a ring: a head goes round, a count is held to the places, and the
 // length in a slot to those of data. So every entry can be sent, and no call fails.
+// Functions and no methods, since `queue` holds types alone.
 #![tactic(auto)]
 
 ghost use Rattle.std.specs.Prelude.{◌≡◌, ◌+◌, ◌%◌, ◌<◌};
@@ -56,6 +57,7 @@ pub fn put(q: &mut [u8; BYTES], r: Ring, d: &[u8]) -> Ring
     if count == PLACES || !(1..=LONGEST).contains(&d.len()) {
         return r;
     }
+    // By arithmetic: of `as_chunks_mut` std says nothing of what the bytes end as.
     let slot = &mut q[place(r, count) * SLOT..];
     write(slot, 0, d.len() as u16);
     slot[2..2 + d.len()].copy_from_slice(d);

@@ -21,7 +21,7 @@ fn main(rt: HostRuntime) -> io::Result<()> {
     let mut out = [0u8; ROOM];
     let mut q = [0u8; BYTES];
     let mut seat = None;
-    // The bytes of the input from `start` to `end` are still to be played; `over` says that no more come.
+    // The bytes of the input from `start` to `end` are still to be played, as `feed` takes them; `over` says that no more come.
     let mut start = 0;
     let mut end = 0;
     let mut over = false;

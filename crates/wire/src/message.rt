@@ -7,6 +7,11 @@ pub const LONGEST: usize = 100;
 // The bytes before a body: kind, number and the three time stamps.
 pub const HEADER: usize = 15;
 
+// The first byte of a payload: a life sign has nothing after it, train data follow theirs.
+pub const LIFE_SIGN: u8 = 2;
+
+pub const TRAIN_DATA: u8 = 3;
+
 // What every message carries.
 #[derive(Clone, Copy)]
 pub struct Header {

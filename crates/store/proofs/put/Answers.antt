@@ -6,7 +6,7 @@ use Rattle.std.proofs.lemmas.List.Edits.{sets}
 use borrow.Rule.Slice.PartMut.{put_mid}
 use Rattle.wire.specs.Bytes.{bytes_of}
 use Rattle.wire.specs.Writing.{over}
-use Rattle.queue.specs.Ring.{places, slot_size, slot_bytes, Sendable}
+use Rattle.queue.specs.Ring.{places, size, slot_size, slot_bytes, Sendable}
 use Rattle.queue.proofs.Slots.{part_stored}
 use Rattle.queue.proofs.Order.{accepted}
 use Rattle.store.proofs.put.Goals as goal
@@ -33,7 +33,7 @@ returns-clause-q_after c =
     let d = c.args.d.now in
     let ok : Sendable d = grind (arith, nat_tests) in
     let start = c.place.result * slot_size in
-    ap₂ (λ (s t : List ℕ). put_mid start (816 - start) q (put_mid 2 (2 + length d - 2) s t)) c.write.ensures c.copy_from_slice.ensures.after
-    ∙ stored d q start (816 - start) (omega arith) (omega arith)
+    ap₂ (λ (s t : List ℕ). put_mid start (size - start) q (put_mid 2 (2 + length d - 2) s t)) c.write.ensures c.copy_from_slice.ensures.after
+    ∙ stored d q start (size - start) (omega arith) (omega arith)
     ∙ ap (λ (i : ℕ). sets q (i * slot_size) (slot_bytes d)) (c.place.ensures.0 ∙ ap (λ (n : ℕ). (c.args.r.head + n) % places) c.waiting-count.ensures)
     ∙ (accepted q c.args.r d (omega arith) ok).1

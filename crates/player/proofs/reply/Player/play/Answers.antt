@@ -1,10 +1,7 @@
 -- One turn, by what was tested and what was replied.
-use Rattle.player.proofs.Remaining.{begins, it_pauses, it_ends, fits, it_shortens, it_goes}
+use Rattle.player.proofs.Remaining.{it_pauses, it_ends, fits, it_shortens, it_goes}
 use Rattle.player.proofs.reply.Player.play.Goals as goal
 use Rattle.player.proofs.reply.Player.play.Goals.{then-pauses_at, else-pauses_at+then-reply}
-
-pub loop-self-init : goal.loop-self-init
-loop-self-init c = begins c.args.last c.args.self.now c.args.s.now
 
 pub slice_bounds-rest-count : goal.slice_bounds-rest-count
 slice_bounds-rest-count c =
