@@ -70,7 +70,7 @@ impl Number<4> for u32 {
 pub fn bytes_from(s: &[u8], at: usize) -> &[u8]
     ensures { result.now ≡ drop at s.now }
 {
-    s.get(at..).unwrap_or(&[])
+    &s[at.min(s.len())..]
 }
 
 // The number at a place, where what lies past the end reads as 0.
