@@ -5,7 +5,7 @@
 // lent output. Both take anything, and nothing is kept between calls.
 //
 // A step goes in three: the crate `decide` decides by tests alone, the crate `perform` works out what
-// follows without tests, and `place` alone touches bytes.
+// follows without tests, and `place` alone touches bytes. Functions and no methods, since `rules` holds types alone.
 #![tactic(auto)]
 
 pub mod answer;

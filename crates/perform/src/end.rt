@@ -1,5 +1,6 @@
-// The end afterwards, and what is reported. Functions and no methods, since `rules` holds types alone. They are public, and take
-// end and reading apart, as the law's do; in the files above them an end has taken the reading.
+// The end afterwards, and what is reported. Functions and no methods, since `rules` holds types alone. They are public, so
+// those that `Default` says stay, and take end and reading apart, as the law's do; in the files above them an end has
+// taken the reading.
 ghost use Rattle.std.specs.Prelude.{◌≡◌};
 ghost use Rattle.queue.specs.Ring.{empty_ring};
 ghost use Rattle.rules.specs.Make.{asks_at_once};
@@ -17,7 +18,7 @@ use rules::state::{Asking, End, Life, Line, Role};
 pub fn was_up(e: End) -> bool
     ensures { result ≡ was_up e }
 {
-    // A local: it is matched from one.
+    // A local: a life is matched from one.
     let life = e.life;
     matches!(life, Life::Up)
 }

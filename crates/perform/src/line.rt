@@ -3,7 +3,7 @@
 // A line is made anew and not stored into: a struct that is stored into is moved in pieces of eight bytes.
 //
 // Functions and no methods: an inherent impl has to stand in the crate of its type, and `rules` holds types alone. They take
-// the reading beside the line, since a line holds none.
+// the reading beside the line, since a line holds none. All are public, so those that `Default` or struct update says stay.
 ghost use Rattle.std.specs.Prelude.{◌≡◌};
 ghost use Rattle.rules.specs.State.{blank_line, new_line};
 ghost use Rattle.rules.specs.Line.{with_offsets, with_began, with_failures, with_busy, accepted_line, posted_line, sent_line, risen_line, delivered_line, spoken_line, header_by};

@@ -15,7 +15,8 @@ use rules::state::End;
 pub fn perform(e: End, act: Act, at: Reading) -> Effect
     ensures { result ≡ performed e act at }
 {
-    // All but Stay keep the new reading. So the rooms are given the end that holds it, and `e.reading` is now.
+    // End and reading come apart, since this is public and Stay keeps the old one. All other acts keep the new reading: so the
+    // rooms are given the end that holds it, and `e.reading` is now.
     let noted = noted_end(e, at);
     match act {
         Act::Stay(answer) => quietly(e, answer),

@@ -1,4 +1,4 @@
-// The line that answers an event.
+// The line that answers an event. What a clause `room` says is told in text.rt.
 ghost use Rattle.std.specs.Prelude.{◌++◌, ◌+◌, ◌*◌, ◌≤◌, length};
 ghost use Rattle.rules.specs.Answers.{number_of};
 ghost use Rattle.rules.specs.Decide.{least_room};

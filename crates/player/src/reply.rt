@@ -22,7 +22,8 @@ use script::record::Record;
 use script::reply::{LINE, Replied};
 
 // Answers the record at the front of `s`: the line stands at the front of `text`.
-// What is lent stands apart here, in `play` and in `feed`, as `ReplyPromise` and its kin of the law name it.
+// What is lent stands apart here, in `play` and in `feed`, as `ReplyPromise` and its kin of the law name it. Room for a line
+// is asked for by three functions here and in line.rt: it is used up by them, so that no type can hold it.
 pub fn reply(
     seat: Option<End>,
     s: &[u8],
@@ -69,7 +70,7 @@ impl Player<'_, '_> {
         false
     }
 
-    // A valid make starts anew, and a refused one keeps the end there was.
+    // A valid make starts anew, and a refused one keeps the end there was. Role, reading and settings go apart, as `make` takes them.
     fn make(&mut self, role: Role, at: Reading, settings: Settings)
         requires { 3 ≤ room_of self.old.text.now }
         ensures { Replies (make_reply (held_by self.old) (made_of role at settings)) self.old false self.new }
