@@ -48,3 +48,24 @@ pub wraps : (w r a b : ℕ) → r < 2 ^ w → (r + b) % 2 ^ w ≡ a → r ≡ di
 wraps w r a b small e =
     sym (diff_is w r a b small
     (ap (λ (k : ℕ). k % 2 ^ w) (add_comm b r) ∙ sym (mod-mod (r + b) (2 ^ w)) ∙ ap (λ (k : ℕ). k % 2 ^ w) e))
+
+-- the same where the result is said as it is computed, for numbers of w bits
+less_wraps : (w a b : ℕ) → a < 2 ^ w → b < 2 ^ w → (a + (2 ^ w - b)) % 2 ^ w ≡ diff w a b
+less_wraps w a b small less =
+    let P = 2 ^ w in
+    let n = a + (P - b) in
+    let e : n + b ≡ a + P = omega arith in
+    wraps w (n % P) a b (mod-lt n (pow_pos w))
+    (mod-add-mod n P b ∙ ap (λ (k : ℕ). k % P) e ∙ add-mod_right a P ∙ mod-eq_of_lt small)
+
+-- of readings and offsets
+pub readings_wrap : (a b : ℕ) → a < 2 ^ 32 → b < 2 ^ 32 → (a + (2 ^ 32 - b)) % 2 ^ 32 ≡ diff 32 a b
+readings_wrap = less_wraps 32
+
+-- of an offset turned round
+pub offset_wraps : (r b : ℕ) → r < 2 ^ 32 → (r + b) % 2 ^ 32 ≡ 0 → diff 32 0 b ≡ r
+offset_wraps r b small e = sym (wraps 32 r 0 b small e)
+
+-- of sequence numbers
+pub numbers_wrap : (a b : ℕ) → a < 2 ^ 16 → b < 2 ^ 16 → (a + (2 ^ 16 - b)) % 2 ^ 16 ≡ diff 16 a b
+numbers_wrap = less_wraps 16

@@ -1,5 +1,5 @@
 // Clock readings, offsets between two clocks, and what is judged from them.
-// Every difference here is the one of the specs, which the proofs open.
+// A difference is the one of the specs by the one fact over the width, and what is compared with one opens it.
 #![tactic(auto, unfolding(crate::specs::Difference::diff))]
 
 ghost use Rattle.std.specs.Prelude.{◌≡◌};
@@ -14,6 +14,7 @@ pub struct Reading(pub u32);
 
 impl Reading {
     // The ticks from `then` to this.
+    #[tactic(auto, using(crate::proofs::Difference::readings_wrap))]
     pub fn since(self, then: Reading) -> u32
         ensures { result ≡ since_of self then }
     {
@@ -42,6 +43,7 @@ pub struct Offset(pub u32);
 
 impl Offset {
     // An own reading less one of the peer's.
+    #[tactic(auto, using(crate::proofs::Difference::readings_wrap))]
     pub fn between(own: Reading, peer: Reading) -> Offset
         ensures { result ≡ offset_of own peer }
     {
@@ -49,6 +51,7 @@ impl Offset {
     }
 
     // Whether this is 0 less the other.
+    #[tactic(auto, using(crate::proofs::Difference::offset_wraps))]
     pub fn is_opposed(self, other: Offset) -> bool
         ensures { result ≡ opposed_of self other }
     {
@@ -88,6 +91,7 @@ impl Offsets {
     }
 
     // By how much the pair may be wrong.
+    #[tactic(auto, using(crate::proofs::Difference::readings_wrap))]
     pub fn spread(self) -> u32
         ensures { result ≡ spread_of self }
     {
@@ -102,6 +106,7 @@ impl Offsets {
     }
 
     // How old a message may be at the most that left the peer at its reading `sent` and is here at `now`.
+    #[tactic(auto, using(crate::proofs::Difference::readings_wrap))]
     pub fn age(self, now: Reading, sent: Reading) -> u32
         ensures { result ≡ age_of now sent self }
     {

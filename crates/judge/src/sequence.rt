@@ -1,5 +1,5 @@
 // Sequence numbers, and what a received one says of the messages before it. Free functions, since a number is a plain u16.
-// Every difference here is the one of the specs, which the proofs open.
+// A difference is the one of the specs by the one fact over the width, and what is compared with one opens it.
 #![tactic(auto, unfolding(crate::specs::Difference::diff))]
 
 ghost use Rattle.std.specs.Prelude.{◌≡◌};
@@ -21,6 +21,7 @@ pub enum Class {
 }
 
 // By how much a received number is ahead of the last one accepted.
+#[tactic(auto, using(crate::proofs::Difference::numbers_wrap))]
 pub fn ahead(received: u16, last: u16) -> u16
     ensures { result ≡ ahead_of received last }
 {
