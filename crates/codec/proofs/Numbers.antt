@@ -1,15 +1,14 @@
 -- Numbers of any width, read and written at any place.
 use Prim.Native.Nat.{ℕ, zero, suc, ◌+◌, ◌-◌, ◌*◌, ◌^◌, ◌<◌, ◌≤◌}
+use denote.Param.Members.{Mut, Called}
 use native.Mathlib.Nat.{add-zero, zero-add}
 use native.Mathlib.Omega.{arith}
 use borrow.Rule.Slice.PartMut.{put_mid}
 use mathlib.Core.List.{List, [], ◌∷◌, ◌++◌, append_assoc}
-use mathlib.Core.Logic.{⊎_elim}
-use mathlib.Core.Path.{◌≡◌, refl, ap, ap₂, sym, ◌∙◌}
-use lib.ListN.{length, get_or, set, take, drop, replicate, get_or-eq_default, length-set}
+use mathlib.Core.Path.{◌≡◌, refl, ap, ap₂, sym, subst, ◌∙◌}
+use lib.ListN.{length, get_or, set, take, drop, length-set}
 use lib.Seq.{sets, sets-eq, set_out, get_or-take, get_or-drop, drop-drop, length-take-le}
-use Rattle.std.proofs.lemmas.List.{get_or_append_left, get_or-append_right}
-use Rattle.std.proofs.lemmas.Bool.{cases_lt}
+use Rattle.std.specs.Array.{IsFromFnResult, IsFromFnResultFrom}
 use Rattle.wire.specs.Bytes.{number_at}
 
 -- ---- reading
@@ -31,24 +30,28 @@ read_whole n s b at whole =
     ap (λ (l : List ℕ). get_or l k 0) whole ∙ get_or-take n (drop at s) k 0 small ∙ get_or-drop at s k 0
     ))
 
--- bytes of 0 make no difference
-nothing : (n i : ℕ) → get_or (replicate n 0) i 0 ≡ zero
-nothing zero i = refl
-nothing (suc n) zero = refl
-nothing (suc n) (suc i) = nothing n i
+-- what a closure that no call changes gives at each number in turn
+module _ {F : Type 0} (g : Mut F (ℕ × Unit {0}) ℕ) (value : ℕ → ℕ) (f : F)
+    (one : (i y : ℕ) (f' : F) → Called g f (i, tt) y f' → (y ≡ value i) × (f' ≡ f)) where
+  made_from : (n i : ℕ) (e : F) (ys : List ℕ) → e ≡ f → IsFromFnResultFrom g e ys i n → (k : ℕ) → k < n → get_or ys (i + k) 0 ≡ value (i + k)
+  made_from zero i e ys same t k small = absurd (omega (arith, small))
+  made_from (suc n) i e ys same t zero small =
+      let called = one i t.1 t.0 (subst (λ (x : F). Called g x (i, tt) t.1 t.0) same t.3) in
+      let here : i + 0 ≡ i = omega arith in
+      rw here (t.2.1 0 ∙ called.0)
+  made_from (suc n) i e ys same t (suc k) small =
+      let called = one i t.1 t.0 (subst (λ (x : F). Called g x (i, tt) t.1 t.0) same t.3) in
+      let there : i + suc k ≡ i + 1 + k = omega arith in
+      rw there (made_from n (i + 1) t.0 ys called.1 t.4 k (omega (arith, small)))
 
-filled : (r : List ℕ) (n k : ℕ) → get_or (r ++ drop (length r) (replicate n 0)) k 0 ≡ get_or r k 0
-filled r n k =
-    ⊎_elim (λ inside. get_or_append_left r (drop (length r) (replicate n 0)) 0 k inside)
-    (λ past. get_or-append_right r (drop (length r) (replicate n 0)) (length r) k 0 refl past
-    ∙ get_or-drop (length r) (replicate n 0) (k - length r) 0 ∙ nothing n _ ∙ sym (get_or-eq_default r 0 {n = k} past))
-    (cases_lt k (length r))
+  pub made : (n : ℕ) (ys : List ℕ) → IsFromFnResult g f ys n → (k : ℕ) → k < n → get_or ys k 0 ≡ value k
+  made n ys all k small = let e : 0 + k ≡ k = omega arith in simp e at (made_from n 0 f ys refl all.each k small)
 
-pub read_cut : (n : ℕ) (s r b : List ℕ) (at : ℕ) → r ≡ drop at s → b ≡ r → number_at n (b ++ drop (length r) (replicate n 0)) 0 ≡ number_at n s at
+-- where the end cuts a number, what is missing is 0
+pub read_cut : (n : ℕ) (s r b : List ℕ) (at : ℕ) → r ≡ drop at s → ((k : ℕ) → k < n → get_or b k 0 ≡ get_or r k 0) → number_at n b 0 ≡ number_at n s at
 read_cut n s r b at is same =
-    same_number n (b ++ drop (length r) (replicate n 0)) s 0 at (λ k small. rw (zero-add k) (
-    ap (λ (l : List ℕ). get_or (l ++ drop (length r) (replicate n 0)) k 0) same
-    ∙ filled r n k ∙ ap (λ (l : List ℕ). get_or l k 0) is ∙ get_or-drop at s k 0
+    same_number n b s 0 at (λ k small. rw (zero-add k) (
+    same k small ∙ ap (λ (l : List ℕ). get_or l k 0) is ∙ get_or-drop at s k 0
     ))
 
 -- ---- writing

@@ -8,6 +8,8 @@ ghost use Rattle.std.proofs.Common.{rules};
 ghost use Rattle.std.proofs.lemmas.List.Edits.{sets};
 ghost use Rattle.wire.specs.Bytes.{bytes_of, number_at};
 
+use std::array::from_fn;
+
 // A number that N bytes write, the highest first.
 pub trait Number<const N: usize>: Copy {
     // The number as clauses see it.
@@ -81,9 +83,7 @@ pub fn read<T: Number<N>, const N: usize>(s: &[u8], at: usize) -> T
     if let Some(bytes) = rest.first_chunk() {
         return T::from_bytes(bytes);
     }
-    let mut bytes = [0; N];
-    bytes[..rest.len()].copy_from_slice(rest);
-    T::from_bytes(&bytes)
+    T::from_bytes(&from_fn(|k| rest.get(k).copied().unwrap_or(0)))
 }
 
 // A number stored at a place, where nothing is written past the end.

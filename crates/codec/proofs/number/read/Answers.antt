@@ -1,6 +1,6 @@
 -- What is read is told by the bytes from the place on, with bytes of 0 behind them where they are too few.
-use Rattle.std.proofs.Common.{◌∙◌, ℕ, List, take, ap}
-use Rattle.codec.proofs.Numbers.{read_whole, read_cut}
+use Rattle.std.proofs.Common.{◌∙◌, ℕ, List, take, ap, get_or, rules}
+use Rattle.codec.proofs.Numbers.{read_whole, read_cut, made}
 use Rattle.codec.proofs.number.read.Goals as goal
 
 pub returns-in-Some : goal.returns-in-Some
@@ -11,4 +11,5 @@ returns-in-Some g c =
 pub returns : goal.returns
 returns g c =
     c.from_bytes-2.ensures
-    ∙ read_cut g.row.N c.args.s.now c.bytes_from-rest.result.now c.copy_from_slice.new.self c.args.at c.bytes_from-rest.ensures c.copy_from_slice.ensures.after
+    ∙ read_cut g.row.N c.args.s.now c.bytes_from-rest.result.now c.from_fn.result c.args.at c.bytes_from-rest.ensures
+    (made _ (λ k. get_or c.bytes_from-rest.result.now k 0) _ (λ i y f' k. search rules) _ _ c.from_fn.ensures.items)
