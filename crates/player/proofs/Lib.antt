@@ -6,3 +6,5 @@ pub mod Putting
 pub mod Lines
 -- what remains of a piece after some turns
 pub mod Remaining
+-- bytes moved to the front of a buffer
+pub mod Moving

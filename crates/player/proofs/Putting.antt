@@ -1,5 +1,5 @@
 -- Laws of putting bytes into a text, one after the other.
-use Prim.Native.Nat.{ℕ, suc, ◌+◌, ◌<◌, ◌/◌, ◌%◌}
+use Prim.Native.Nat.{ℕ, suc, ◌+◌, ◌*◌, ◌<◌, ◌/◌, ◌%◌}
 use native.Mathlib.Omega.{arith}
 use mathlib.Core.List.{List, [], ◌∷◌, ◌++◌}
 use mathlib.Core.Path.{◌≡◌, refl, ap, ◌∙◌}
@@ -43,3 +43,8 @@ hex_of-append (x ∷ a) b = ap (λ (l : List ℕ). digit_of (x / 16) ∷ digit_o
 pub hex_of-take : (s : List ℕ) (i : ℕ) → i < length s
     → hex_of (take (i + 1) s) ≡ hex_of (take i s) ++ (digit_of (get_or s i 0 / 16) ∷ digit_of (get_or s i 0 % 16) ∷ [])
 hex_of-take s i inside = rw (add-one, take-suc s i 0 inside, hex_of-append)
+
+-- two digits a byte
+pub hex_length : (s : List ℕ) → length (hex_of s) ≡ 2 * length s
+hex_length [] = refl
+hex_length (b ∷ s) = let rest = hex_length s in omega arith

@@ -71,6 +71,7 @@ fn between(s: &[u8], start: usize, end: usize) -> &[u8]
 }
 
 // Moves these bytes to the front, and answers how many they are.
+#[tactic(auto, using(crate::proofs::Moving::to_front))]
 fn to_front(buffer: &mut [u8], start: usize, end: usize) -> usize
     ensures value { (result ≡ length (slice start end buffer.old)) × (result ≤ end) }
     ensures moved { buffer.new ≡ sets buffer.old 0 (slice start end buffer.old) }

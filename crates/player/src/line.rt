@@ -19,7 +19,8 @@ impl Text<'_> {
     pub fn put_line(&mut self, answer: Answer, flags: Flags, front: Front, out: &[u8])
         requires room { line_room ≤ room_of self.old }
         requires fits { length out.now ≤ least_room }
-        ensures { Puts self.old (answer_line answer (outputs_of flags front out.now)) self.new }
+        ensures puts { Puts self.old (answer_line answer (outputs_of flags front out.now)) self.new }
+        ensures room { room_of self.old ≤ room_of self.new + line_room }
     {
         self.put_answer(answer);
         self.put_earlier(flags);

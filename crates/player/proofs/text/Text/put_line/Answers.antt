@@ -9,9 +9,9 @@ use Rattle.player.proofs.Putting.{puts_then}
 use Rattle.player.proofs.Lines.{puts_words, outputs_in_order}
 use Rattle.player.proofs.text.Text.put_line.Goals as goal
 
-pub returns : goal.returns
+pub returns-clause-puts : goal.returns-clause-puts
 unfolding answer_line
-returns c =
+returns-clause-puts c =
     let f = c.args.flags in
     let number = decimal_of (number_of c.args.answer) in
     let shown = front_output c.args.front c.args.out.now in
