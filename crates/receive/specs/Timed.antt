@@ -5,6 +5,10 @@ use Rattle.rules.specs.declared.effect.Front.{Front}
 use Rattle.rules.specs.declared.effect.Front.TheVariants.{Nothing, Message as message, Datum}
 use Rattle.rules.specs.declared.act.Event.{Event}
 use Rattle.rules.specs.declared.act.Event.TheVariants.{Connect, Message as heard}
+use Rattle.rules.specs.declared.settings.Settings.{Settings}
+
+abbrev pub settings_of : Settings
+settings_of = record { age = 50; spread = 20; silence = 300; life_sign = 100; wait = 500; retry = 1_000; jump = 4; errors = 2 }
 
 abbrev pub event_at : ℕ → Event
 event_at turn = if turn == 0 then Connect else heard

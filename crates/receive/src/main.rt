@@ -23,7 +23,7 @@ fn main(rt: HostRuntime) -> io::Result<()> {
     let mut input = [0u8; 85];
     input::fill(&mut rt.stdin(), &mut input)?;
     let at = Reading(read(&input, 81));
-    let Ok(mut end) = make(Role::Called, at, timed::SETTINGS) else {
+    let Ok(mut end) = make(Role::Called, at, timed::settings()) else {
         return Ok(());
     };
     let mut delivered = 0;

@@ -1,7 +1,7 @@
 // What the timed run is made of: event 0 is a connect indication, events 1 to 3 are the peer's messages
 // of the start, and all others are train data.
 ghost use Rattle.std.specs.Prelude.{◌≡◌, ◌≤◌};
-ghost use Rattle.receive.specs.Timed.{event_at, number_at_turn, span_of, is_datum};
+ghost use Rattle.receive.specs.Timed.{settings_of, event_at, number_at_turn, span_of, is_datum};
 
 use rules::act::Event;
 use rules::effect::Front;
@@ -18,6 +18,13 @@ pub const SETTINGS: Settings = Settings {
     jump: 4,
     errors: 2,
 };
+
+// A function, since no clause stands at a constant.
+pub fn settings() -> Settings
+    ensures { result ≡ settings_of }
+{
+    SETTINGS
+}
 
 pub fn event_at(turn: u32) -> Event
     ensures { result ≡ event_at turn }
