@@ -1,5 +1,6 @@
 // A line of hexadecimal digits on its way to bytes.
 ghost use Rattle.std.specs.Prelude.{◌≡◌, ◌<◌, IfSome};
+ghost use Rattle.std.specs.List.{fold};
 ghost use Rattle.inspect.specs.Hex.{Progress, nibble_of, fed, with_digit};
 
 use arrayvec::ArrayVec;
@@ -39,6 +40,18 @@ impl Line {
             b'#' => self.note = true,
             b' ' => {}
             _ => self.take_digit(character),
+        }
+    }
+
+    // Takes characters, one after the other. What stands behind the beginning of a note is not looked at.
+    pub fn feed_all(&mut self, characters: &[u8])
+        ensures { self.new ≡ fold fed self.old characters.now }
+    {
+        for &character in characters {
+            if self.note {
+                break;
+            }
+            self.feed(character);
         }
     }
 

@@ -23,14 +23,16 @@ fn main(rt: HostRuntime) -> io::Result<()> {
         if got == 0 {
             return Ok(());
         }
-        for &character in &input[..got] {
-            match character {
-                b'\n' => {
-                    show::show(&rt, &line)?;
-                    line = Line::default();
-                }
-                character => line.feed(character),
+        for (before, part) in input[..got]
+            .split(|&character| character == b'\n')
+            .enumerate()
+        {
+            // A line has ended before each part but the first.
+            if before > 0 {
+                show::show(&rt, &line)?;
+                line = Line::default();
             }
+            line.feed_all(part);
         }
     }
     Ok(())
