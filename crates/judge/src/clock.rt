@@ -1,5 +1,6 @@
 // Clock readings, offsets between two clocks, and what is judged from them.
-// A difference is the one of the specs by the one fact over the width, and what is compared with one opens it.
+// A difference is the one of the specs by the one fact over the width. The file opens it besides, so that a goal which is false
+// is shown to be so by values.
 #![tactic(auto, unfolding(crate::specs::Difference::diff))]
 
 ghost use Rattle.std.specs.Prelude.{◌≡◌};

@@ -1,5 +1,6 @@
 // Sequence numbers, and what a received one says of the messages before it. Free functions, since a number is a plain u16.
-// A difference is the one of the specs by the one fact over the width, and what is compared with one opens it.
+// A difference is the one of the specs by the one fact over the width. The file opens it besides, so that a goal which is false
+// is shown to be so by values.
 #![tactic(auto, unfolding(crate::specs::Difference::diff))]
 
 ghost use Rattle.std.specs.Prelude.{◌≡◌};
