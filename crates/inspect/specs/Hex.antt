@@ -1,5 +1,5 @@
 -- A line of hexadecimal digits, read character by character into bytes.
-use Rattle.std.specs.Prelude.{ℕ, ◌+◌, ◌-◌, ◌*◌, ◌%◌, Bool, true, Option, None, Some, List, [], ◌∷◌, ◌++◌, length, if◌then◌else◌, ◌==◌, ◌&&◌, nat_lt, nat_le}
+use Rattle.std.specs.Prelude.{ℕ, ◌+◌, ◌-◌, ◌*◌, ◌%◌, Bool, true, false, Option, None, Some, List, [], ◌∷◌, ◌++◌, length, if◌then◌else◌, ◌==◌, ◌&&◌, nat_lt, nat_le}
 use Rattle.inspect.specs.declared.hex.TheConstants.{ROOM}
 
 -- how much of a line has been read: its whole bytes, the first digit of the next, whether something
@@ -9,6 +9,10 @@ pub record Progress : Type 0 where
   pub high : Option ℕ
   pub bad : Bool
   pub note : Bool
+
+-- nothing has been read
+abbrev pub blank : Progress
+blank = record { bytes = []; high = None; bad = false; note = false }
 
 -- the value of a digit
 abbrev pub nibble_of : ℕ → Option ℕ

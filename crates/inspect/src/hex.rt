@@ -1,7 +1,7 @@
 // A line of hexadecimal digits on its way to bytes.
 ghost use Rattle.std.specs.Prelude.{◌≡◌, ◌<◌, IfSome};
 ghost use Rattle.std.specs.List.{fold};
-ghost use Rattle.inspect.specs.Hex.{Progress, nibble_of, fed, with_digit};
+ghost use Rattle.inspect.specs.Hex.{Progress, blank, nibble_of, fed, with_digit};
 
 use arrayvec::ArrayVec;
 use std::marker::Model;
@@ -29,6 +29,16 @@ impl Model for Line {
 }
 
 impl Line {
+    // Makes it a line of which nothing has been read. In place, since a new one would be zeroed and moved over it whole.
+    pub fn clear(&mut self)
+        ensures { self.new ≡ blank }
+    {
+        self.bytes.clear();
+        self.high = None;
+        self.bad = false;
+        self.note = false;
+    }
+
     // Takes one more character.
     pub fn feed(&mut self, character: u8)
         ensures { self.new ≡ fed self.old character }
@@ -48,10 +58,10 @@ impl Line {
         ensures { self.new ≡ fold fed self.old characters.now }
     {
         for &character in characters {
+            self.feed(character);
             if self.note {
                 break;
             }
-            self.feed(character);
         }
     }
 

@@ -30,7 +30,7 @@ fn main(rt: HostRuntime) -> io::Result<()> {
             // A line has ended before each part but the first.
             if before > 0 {
                 show::show(&rt, &line)?;
-                line = Line::default();
+                line.clear();
             }
             line.feed_all(part);
         }

@@ -72,24 +72,30 @@ impl Display for Hex<'_> {
 }
 
 // Prints how a line reads, and answers how many numbers that took.
+#[tactic(auto, unfolding(wire::specs::Message::parse))]
 pub fn show(rt: &impl Print, line: &Line) -> io::Result<usize>
     ensures { IfOk result (λ count. count ≡ told line.now) }
 {
     if line.bad {
-        println!(rt; "not hexadecimal")?;
-        return Ok(0);
+        return say(rt, "not hexadecimal");
     }
     if line.high.is_some() {
-        println!(rt; "half a byte")?;
-        return Ok(0);
+        return say(rt, "half a byte");
     }
     let bytes = line.bytes.as_slice();
-    let Some(message) = read_message(bytes) else {
-        let is_note_alone = line.note && bytes.is_empty();
-        if !is_note_alone {
-            println!(rt; "malformed")?;
-        }
+    let is_note_alone = line.note && bytes.is_empty();
+    if is_note_alone {
         return Ok(0);
+    }
+    show_message(rt, bytes)
+}
+
+// Functions of their own, since what they print with is made ready at each call: a line that shows nothing does without.
+fn show_message(rt: &impl Print, bytes: &[u8]) -> io::Result<usize>
+    ensures { IfOk result (λ count. count ≡ count_of (parse bytes.now)) }
+{
+    let Some(message) = read_message(bytes) else {
+        return say(rt, "malformed");
     };
     let row = Row::from(message);
     if let Body::TrainData = message.body {
@@ -98,4 +104,12 @@ pub fn show(rt: &impl Print, line: &Line) -> io::Result<usize>
         println!(rt; "{row}")?;
     }
     Ok(row.0.len())
+}
+
+// Prints a line of words, which takes no numbers.
+fn say(rt: &impl Print, words: &str) -> io::Result<usize>
+    ensures { IfOk result (λ count. count ≡ 0) }
+{
+    println!(rt; "{words}")?;
+    Ok(0)
 }
